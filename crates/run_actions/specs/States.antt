@@ -189,8 +189,8 @@ ledgerOf allowance g m =
       mark = tt;
     }
 
-abbrev pub roomOf : Memory → Room
-roomOf m =
+abbrev pub memoryRoom : Memory → Room
+memoryRoom m =
     record {
       inCells = length (m .input);
       outCells = length (m .output);
@@ -264,8 +264,8 @@ outcomeAfter allowance k (Deeper g) m = k (g .at .0) (localOf g m) (stacksOf g m
 pub record Writes (action : Action) (text : Bytes) (g : Registers) (m : Memory) : Type 0 where
   pub same : (allowance : ℕ) (code : Code) (enter : ℕ → ℕ → Stacks → Ledgers → Outcomes) (k : Continuation) →
       let s = stacksOf g m in
-      perform (lent (roomOf m)) code enter k (suc (g .frame)) action (localOf g m) s (ledgerOf allowance g m) ≡
-      noting (lent (roomOf m)) (outCells (length (s .output) + length text)) (ledgerOf allowance g m)
+      perform (lent (memoryRoom m)) code enter k (suc (g .frame)) action (localOf g m) s (ledgerOf allowance g m) ≡
+      noting (lent (memoryRoom m)) (outCells (length (s .output) + length text)) (ledgerOf allowance g m)
       (k (localOf g m) (movedOn (s .selected) (withOutput (s .output ++ text) s)))
 
 -- an action preserves the invariant and all but its own cells, and goes on at a place of the code, in the same frame
@@ -294,6 +294,6 @@ pub record ImplementsAction (action : Action) (at : ℕ) (g : Registers) (m : Me
     (next : Next) (n : Memory) : Type 0 where
   pub same : (allowance : ℕ) (code : Code) (enter : ℕ → ℕ → Stacks → Ledgers → Outcomes) (k : Continuation) →
       let l = ledgerOf allowance g m in
-      perform (lent (roomOf m)) code enter k (suc (g .frame)) action (localOf g m) (stacksOf g m) l ≡
+      perform (lent (memoryRoom m)) code enter k (suc (g .frame)) action (localOf g m) (stacksOf g m) l ≡
       outcomeAfter allowance (λ place. k) next n
   pub preserves : PreservesOrStops at g m next n
