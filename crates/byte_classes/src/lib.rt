@@ -5,8 +5,14 @@ ghost use Rattle.meaning.specs.Classes.{within, inClass, digit, alphabetic, isB
 ghost use Rattle.meaning.specs.Allowed.{wordByte, nameByte};
 ghost use Rattle.byte_classes.specs.Tests.{classTest, bitOf, Answers};
 
+// How many bytes there are.
+pub const BYTE_COUNT: usize = 256;
+
+// How many tests the table answers.
+const TEST_COUNT: u8 = 5;
+
 // Bits 0 to 4: IsDigit, IsUpper, IsLower, IsLetter, IsBlank.
-const CLASSES: [u8; 256] = [
+const CLASSES: [u8; BYTE_COUNT] = [
     0,
     0,
     0,
@@ -265,11 +271,11 @@ const CLASSES: [u8; 256] = [
     0,
 ];
 
-// A bit of an entry; there are five.
+// A bit of an entry; there is one for each test.
 pub fn bit(entry: u8, class: u8) -> bool
     ensures { λ r. ⌜ r ≡ bitOf class entry ⌝ }
 {
-    if class < 5 {
+    if class < TEST_COUNT {
         (entry >> class) % 2 == 1
     } else {
         false
@@ -277,14 +283,14 @@ pub fn bit(entry: u8, class: u8) -> bool
 }
 
 // The table, for a caller that asks of many bytes.
-pub fn class_table() -> [u8; 256]
+pub fn class_table() -> [u8; BYTE_COUNT]
     ensures { λ r. ⌜ Answers r ⌝ }
 {
     CLASSES
 }
 
 // The same test by a table that the caller has: naming the constant builds it anew each time.
-pub fn passes(table: &[u8; 256], byte: u8, class: u8) -> bool
+pub fn passes(table: &[u8; BYTE_COUNT], byte: u8, class: u8) -> bool
     requires { ⌜ Answers (now table) ⌝ }
     ensures { λ r. ⌜ r ≡ classTest class byte ⌝ }
 {

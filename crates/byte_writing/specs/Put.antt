@@ -1,5 +1,5 @@
 -- What writing some bytes leaves: the place after them, and the buffer with as many of them as it has cells for.
-use Prim.Native.Nat.{ℕ, _+_}
+use Prim.Native.Nat.{ℕ, _+_, _^_}
 use mathlib.Core.Path.{_≡_}
 use mathlib.Core.List.{List}
 use lib.ListN.{length}
@@ -11,4 +11,11 @@ pub record Put (at : ℕ) (old bytes : List ℕ) (next : ℕ) (new : List ℕ) :
 
 -- no writer starts past this place, so no place overflows
 abbrev pub farthest : ℕ
-farthest = 1048576
+farthest = 2 ^ 20
+
+-- the byte `0`, which the other digits follow, and the byte that begins an escape
+abbrev pub zeroDigit : ℕ
+zeroDigit = 48
+
+abbrev pub backslash : ℕ
+backslash = 92

@@ -6,6 +6,7 @@ use Rattle.meaning.specs.Angles.{operation}
 use Rattle.meaning.specs.Packing.{Words, codeWord, operationNumber}
 use Rattle.meaning.specs.Packing.{actionsEnd, computeNumber, goNumber, outNumber, selectNumber, tailCallNumber}
 use Rattle.meaning.specs.Packing.{useSeqNumber}
+use Rattle.code_numbers.specs.Numbers.{operand}
 use Rattle.code_patterns.specs.declared.pattern.Lengths.{Lengths}
 use Rattle.code_actions.specs.declared.spans.Stand.{Stand}
 use Rattle.code_actions.specs.declared.spans.Span.{Span}
@@ -32,7 +33,7 @@ abbrev pub leftWords : Lengths → Bool → Stand → ℕ → Words
 leftWords l first w number =
     spanWords goNumber (gapBy (l .parts) l first w) ∷ codeWord useSeqNumber 0 0 0 ∷
     spanWords selectNumber (pieceSpan (l .parts) l first) ∷
-    (tailCallNumber + 256 * number) ∷ actionsEnd ∷ []
+    (tailCallNumber + operand * number) ∷ actionsEnd ∷ []
 
 -- an angle call, by whether it subtracts
 abbrev pub computationWord : Bool → ℕ

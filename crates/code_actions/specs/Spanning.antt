@@ -5,7 +5,7 @@ use mathlib.Core.Bool.{Bool, true, false}
 use lib.Dec.{eqb}
 use Rattle.meaning.specs.Allowed.{maxLetters}
 use Rattle.meaning.specs.Instructions.{Span as MeantSpan}
-use Rattle.meaning.specs.Packing.{lengthNumber}
+use Rattle.meaning.specs.Packing.{nullNumber, wholeNumber, leftNumber, rightNumber, lengthNumber}
 use Rattle.meaning.specs.Translation.{Stand as MeantStand, atStart, afterFirst, afterSecond}
 use Rattle.tape_words.specs.declared.tape.Parts.{Parts}
 use Rattle.tape_words.specs.declared.tape.Parts.the-variants.{Zero, One, Two}
@@ -25,25 +25,21 @@ spanNumbers s = record { register = lengthNumber (s .register); add = s .add; ba
 abbrev pub codeSpan : ℕ → ℕ → ℕ → Span
 codeSpan register add back = record { register = register; add = add; back = back }
 
--- from where p stands to the second e-variable of two
-abbrev pub gapToSecond : Lengths → Stand → Span
-gapToSecond l AtStart = codeSpan 2 (l .second) 0
-gapToSecond l AfterFirst = codeSpan 0 (l .second) 0
-gapToSecond l AfterSecond = codeSpan 0 0 0
-
 -- from where p stands to an e-variable, which is the pattern's first or not
 abbrev pub gapBy : Parts → Lengths → Bool → Stand → Span
-gapBy Zero l first w = codeSpan 0 0 0
-gapBy One l first w = codeSpan 0 (l .first) 0
-gapBy Two l true w = codeSpan 0 (l .first) 0
-gapBy Two l false w = gapToSecond l w
+gapBy Zero l first w = codeSpan nullNumber 0 0
+gapBy One l first w = codeSpan nullNumber (l .first) 0
+gapBy Two l true w = codeSpan nullNumber (l .first) 0
+gapBy Two l false AtStart = codeSpan leftNumber (l .second) 0
+gapBy Two l false AfterFirst = codeSpan nullNumber (l .second) 0
+gapBy Two l false AfterSecond = codeSpan nullNumber 0 0
 
 -- the e-variable itself
 abbrev pub pieceSpan : Parts → Lengths → Bool → Span
-pieceSpan Zero l first = codeSpan 0 0 0
-pieceSpan One l first = codeSpan 1 0 (l .first + l .second)
-pieceSpan Two l true = codeSpan 2 0 (l .first)
-pieceSpan Two l false = codeSpan 3 0 (l .second + l .third)
+pieceSpan Zero l first = codeSpan nullNumber 0 0
+pieceSpan One l first = codeSpan wholeNumber 0 (l .first + l .second)
+pieceSpan Two l true = codeSpan leftNumber 0 (l .first)
+pieceSpan Two l false = codeSpan rightNumber 0 (l .second + l .third)
 
 -- where p stands after it
 abbrev pub standAfter : Parts → Bool → Stand → Stand
@@ -54,13 +50,13 @@ standAfter Two false w = AfterSecond
 
 -- the rest of the field
 abbrev pub restBy : Parts → Lengths → Stand → Span
-restBy Zero l w = codeSpan 1 0 0
-restBy One l AtStart = codeSpan 1 0 0
-restBy One l AfterFirst = codeSpan 0 (l .second) 0
-restBy One l AfterSecond = codeSpan 0 0 0
-restBy Two l AtStart = codeSpan 1 0 0
-restBy Two l AfterFirst = codeSpan 3 0 0
-restBy Two l AfterSecond = codeSpan 0 (l .third) 0
+restBy Zero l w = codeSpan wholeNumber 0 0
+restBy One l AtStart = codeSpan wholeNumber 0 0
+restBy One l AfterFirst = codeSpan nullNumber (l .second) 0
+restBy One l AfterSecond = codeSpan nullNumber 0 0
+restBy Two l AtStart = codeSpan wholeNumber 0 0
+restBy Two l AfterFirst = codeSpan rightNumber 0 0
+restBy Two l AfterSecond = codeSpan nullNumber (l .third) 0
 
 -- an e-variable, which is the pattern's first or not, is its last, and no template comes after it
 abbrev pub endsBy : Parts → Lengths → Bool → Bool
@@ -71,6 +67,6 @@ endsBy Two l false = eqb (l .third) 0
 
 -- a span's numbers fit a word's operands
 pub record SmallSpan (s : Span) : Type 0 where
-  pub register : s .register ≤ 3
+  pub register : s .register ≤ rightNumber
   pub add : s .add ≤ maxLetters
   pub back : s .back ≤ maxLetters

@@ -27,6 +27,7 @@ ghost use Prim.Native.Nat.{_+_, _*_, _≤_, _<_, _^_};
 ghost use lib.ListN.{length, take, drop};
 ghost use Rattle.meaning.specs.Allowed.{maxFunctions, maxLetters};
 ghost use Rattle.meaning.specs.Packing.{codeWord, actionsEnd, callNumber, emissionNumber, tailCallNumber};
+ghost use Rattle.code_numbers.specs.Numbers.{operand};
 ghost use Rattle.code_words.specs.Writing.{Wrote};
 ghost use Rattle.code_patterns.specs.Testing.{total};
 ghost use Rattle.code_actions.specs.Spanning.{SmallSpan};
@@ -39,7 +40,7 @@ const SUM: usize = COMPUTE + FIRST * PLUS;
 const DIFFERENCE: usize = COMPUTE + FIRST * MINUS;
 
 pub fn put_span(code: &mut [u32], at: usize, number: usize, span: Span) -> usize
-    requires { ⌜ SmallSpan span × (number < 256) × (at < 2 ^ 62) ⌝ }
+    requires { ⌜ SmallSpan span × (number < operand) × (at < 2 ^ 62) ⌝ }
     ensures { λ r. ⌜ Wrote (now (code .entry)) at (spanWords number span ∷ []) (now (code .exit)) r ⌝ }
 {
     put_operands(code, at, number, span.register, span.add, span.back)
@@ -57,7 +58,7 @@ pub fn put_part(lengths: Lengths, first: bool, stand: Stand, code: &mut [u32], a
 
 // UseSeq, and Select of nothing more.
 fn argument_ready(code: &mut [u32], at: usize) -> usize
-    requires { ⌜ at < 2 ^ 61 + 8 ⌝ }
+    requires { ⌜ at + 1 < 2 ^ 62 ⌝ }
     ensures { λ r. ⌜ Wrote (now (code .entry)) at (readyWords []) (now (code .exit)) r ⌝ }
 {
     let used = put_operands(code, at, USE_SEQ, 0, 0, 0);
@@ -65,7 +66,7 @@ fn argument_ready(code: &mut [u32], at: usize) -> usize
 }
 
 pub fn write_emission(tape: &[u32], from: usize, size: usize, code: &mut [u32], at: usize) -> usize
-    requires { ⌜ (from + size ≤ length (now tape)) × (size < 256) × (at < 2 ^ 61) ⌝ }
+    requires { ⌜ (from + size ≤ length (now tape)) × (size < operand) × (at < 2 ^ 61) ⌝ }
     ensures { λ r. ⌜ Wrote (now (code .entry)) at
         (readyWords (codeWord emissionNumber size 0 0 ∷ take size (drop from (now (tape .entry))))) (now (code .exit)) r
         ⌝ }
@@ -99,7 +100,7 @@ pub fn write_tail_call(
 ) -> usize
     requires { ⌜ (total lengths ≤ maxLetters) × (number ≤ maxFunctions) × (at < 2 ^ 61) ⌝ }
     ensures { λ r. ⌜ Wrote (now (code .entry)) at
-        (restWord lengths stand ∷ readyWords ((tailCallNumber + 256 * number) ∷ actionsEnd ∷ []))
+        (restWord lengths stand ∷ readyWords ((tailCallNumber + operand * number) ∷ actionsEnd ∷ []))
         (now (code .exit)) r ⌝ }
 {
     let gone = put_span(code, at, GO, rest_of(lengths, stand));
@@ -111,7 +112,7 @@ pub fn write_tail_call(
 pub fn write_call(number: usize, code: &mut [u32], at: usize) -> usize
     requires { ⌜ (number ≤ maxFunctions) × (at < 2 ^ 61) ⌝ }
     ensures { λ r. ⌜ Wrote (now (code .entry)) at
-        (readyWords ((callNumber + 256 * number) ∷ [])) (now (code .exit)) r ⌝ }
+        (readyWords ((callNumber + operand * number) ∷ [])) (now (code .exit)) r ⌝ }
 {
     let ready = argument_ready(code, at);
     put(code, ready, CALL + FIRST * number)

@@ -26,6 +26,7 @@ use Rattle.code_expressions.specs.declared.expression.Manner.{Manner}
 use Rattle.code_expressions.specs.declared.expression.Manner.the-variants.{Emits, Computes, Replaces, Nests}
 use Rattle.tape_words.specs.Words.{headName, headNames, itemAt}
 use Rattle.code_expressions.specs.Levels.{Levels, firstOf, othersOf, levelsIn}
+use Rattle.code_numbers.specs.Numbers.{operand}
 use Rattle.code_words.specs.Writing.{Wrote, Same}
 use Rattle.tape_words.specs.Finding.{numberAmong, callingIn}
 use Rattle.code_patterns.specs.Measuring.{flag, lengthsOf, firstPartOr}
@@ -86,8 +87,8 @@ callDone w next at more =
 abbrev pub callWords : Manner → Lengths → Stand → ℕ → Name → Words
 callWords Emits l w number n = readyWords (codeWord emissionNumber (length n) 0 0 ∷ n)
 callWords (Computes subtract) l w number n = readyWords (computationWord subtract ∷ [])
-callWords Replaces l w number n = restWord l w ∷ readyWords ((tailCallNumber + 256 * number) ∷ actionsEnd ∷ [])
-callWords Nests l w number n = readyWords ((callNumber + 256 * number) ∷ [])
+callWords Replaces l w number n = restWord l w ∷ readyWords ((tailCallNumber + operand * number) ∷ actionsEnd ∷ [])
+callWords Nests l w number n = readyWords ((callNumber + operand * number) ∷ [])
 
 abbrev pub isStop : Item → Bool
 isStop Byte = false
@@ -180,6 +181,22 @@ pub record Innermost (ws calls : List ℕ) (w : Walk) : Type 0 where
   pub room : w .depth ≤ length calls
   pub known : getD calls (w .depth - 1) 0 < length ws
 
+-- the most words that a call's end takes: UseSeq, Select, and an emission with its name
+abbrev pub callEndWords : ℕ
+callEndWords = 2 + operand
+
+-- the most that an item takes, with the end of the call that it may open; and what follows the items: a Go over the
+-- rest of the field, and the actions' end
+abbrev pub itemWords : ℕ
+itemWords = 1 + callEndWords
+
+abbrev pub lastWords : ℕ
+lastWords = 2
+
+-- the most words of an expression
+abbrev pub expressionWords : ℕ
+expressionWords = itemWords * maxItems + lastWords
+
 -- what is left to be done
 abbrev pub toGo : List ℕ → Walk → ℕ
 toGo ws w = 2 * (length ws + 1 - w .next) + w .depth + flag (w .more)
@@ -192,8 +209,8 @@ pub record ItemsOn (ws heads names : List ℕ) (m : Pattern) (calls code : List 
   pub rest : restNow (r .more) ws r ≡ restNow true ws w
   pub within : InItems ws calls′ r
   pub ahead : toGo ws r < 2 * (length ws + 1 - w .next) + w .depth + 1
-  pub grown : r .at + 260 * r .depth + 270 * w .items
-      ≤ w .at + 260 * w .depth + 270 * r .items + 2 * (1 - flag (r .more))
+  pub grown : r .at + callEndWords * r .depth + itemWords * w .items
+      ≤ w .at + callEndWords * w .depth + itemWords * r .items + lastWords * (1 - flag (r .more))
 
 -- the whole expression is written
 pub record ItemsAll (ws heads names : List ℕ) (m : Pattern) (start : ℕ) (code : List ℕ) (at : ℕ) (code′ : List ℕ)
@@ -202,4 +219,4 @@ pub record ItemsAll (ws heads names : List ℕ) (m : Pattern) (start : ℕ) (cod
       → Wrote code at (packActions (actionsOf t s ss (levelsIn 0 0 0 (drop start ws) .current))) code′ (r .at)
   pub rest : drop (r .next) ws ≡ levelsIn 0 0 0 (drop start ws) .rest
   pub next : r .next ≤ length ws + 1
-  pub grown : r .at ≤ at + 34600
+  pub grown : r .at ≤ at + expressionWords

@@ -1,6 +1,7 @@
 // A sentence's expression as actions: item by item, with the open calls in an array.
 use crate::naming::number_of;
 use crate::naming::size_of;
+use arithmetic::less;
 use code_actions::spans::Stand;
 use code_actions::spans::ends_pattern;
 use code_actions::spans::rest_of;
@@ -27,7 +28,6 @@ use tape_words::names::calling_of;
 use tape_words::names::name_is;
 use tape_words::tape::Item;
 use tape_words::tape::item_at;
-use tape_words::tape::less;
 use tape_words::tape::word_at;
 ghost use mathlib.Core.Path.{_≡_};
 ghost use mathlib.Core.Bool.{true, false};
@@ -38,6 +38,7 @@ ghost use Rattle.meaning.specs.Allowed.{maxFunctions, maxItems, maxLetters};
 ghost use Rattle.meaning.specs.Choice.{pick};
 ghost use Rattle.meaning.specs.Packing.{codeWord, actionsEnd, beginSeqNumber, outCNumber, outVNumber};
 ghost use Rattle.tape_words.specs.Words.{headName, headNames};
+ghost use Rattle.tape_layout.specs.Tape.{symbolWord};
 ghost use Rattle.code_words.specs.Writing.{Wrote};
 ghost use Rattle.tape_words.specs.Finding.{numberAmong};
 ghost use Rattle.code_patterns.specs.Testing.{total};
@@ -85,8 +86,8 @@ fn past_item(walk: Walk, size: usize, at: usize, depth: usize, stand: Stand) -> 
 }
 
 fn write_character(tape: &[u32], code: &mut [u32], walk: Walk) -> Walk
-    requires { ⌜ (getD (now tape) (walk .next) 0 < 256) × (walk .next < length (now tape)) × (walk .items < maxItems) ×
-        (walk .at < 2 ^ 61) ⌝ }
+    requires { ⌜ (getD (now tape) (walk .next) 0 < symbolWord) × (walk .next < length (now tape)) ×
+        (walk .items < maxItems) × (walk .at < 2 ^ 61) ⌝ }
     ensures { λ r. ⌜ Wrote (now (code .entry)) (walk .at)
         (codeWord outCNumber (getD (now (tape .entry)) (walk .next) 0) 0 0 ∷ []) (now (code .exit)) (r .at) ⌝ }
     ensures { λ r. ⌜ r ≡ itemDone walk 0 (r .at) (walk .depth) (walk .stand) ⌝ }

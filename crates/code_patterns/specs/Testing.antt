@@ -11,6 +11,8 @@ use Rattle.meaning.specs.Tree.{Element, letter, part}
 use Rattle.meaning.specs.Instructions.{Site as MeantSite, fromStart, fromEnd, fromPlace, store}
 use Rattle.meaning.specs.Translation.{Tested, testedLetter}
 use Rattle.meaning.specs.Packing.{Words, fromStartNumber, fromEndNumber, siteRegister, siteOffset, testWord, storeWord}
+use Rattle.meaning.specs.Packing.{registers, compareNumber, fromPlaceNumber}
+use Rattle.code_numbers.specs.Numbers.{operand, first, third}
 use Rattle.tape_words.specs.declared.tape.Parts.{Parts}
 use Rattle.tape_words.specs.declared.tape.Parts.the-variants.{Zero, One, Two}
 use Rattle.code_patterns.specs.declared.pattern.Lengths.{Lengths}
@@ -25,6 +27,10 @@ use Rattle.code_patterns.specs.Measuring.{flag}
 
 abbrev pub siteNumbers : MeantSite → Site
 siteNumbers s = record { register = siteRegister s; offset = siteOffset s }
+
+-- a cell's numbers fit a word's operands
+abbrev pub SmallSite : Site → Type 0
+SmallSite s = (s .register ≤ fromPlaceNumber) × (s .offset ≤ maxLetters)
 
 -- the length of the last template
 abbrev pub lastOf : Parts → Lengths → ℕ
@@ -43,22 +49,12 @@ siteBy parts Two last o = fromEnd (last - o)
 abbrev pub siteAt : Lengths → Parts → ℕ → MeantSite
 siteAt l template o = siteBy (l .parts) template (lastOf (l .parts) l) o
 
--- the factors of a code word's operands: the first and the third, and in the first a second register or a truth value
-abbrev pub first : ℕ
-first = 256
-
-abbrev pub third : ℕ
-third = 16777216
-
+-- what one of a second register counts in a word, and one of a truth value: both stand in the first operand
 abbrev pub secondRegister : ℕ
-secondRegister = 1024
+secondRegister = first * registers
 
 abbrev pub truth : ℕ
-truth = 1024
-
--- what every operand is below
-abbrev pub operand : ℕ
-operand = 256
+truth = first * registers
 
 -- a cell as one number, as it is kept for each different s-variable
 abbrev pub siteNumber : MeantSite → ℕ
@@ -69,11 +65,11 @@ siteIn n =
     pick (eqb (n % operand) fromStartNumber) (fromStart (n / operand))
     (pick (eqb (n % operand) fromEndNumber) (fromEnd (n / operand)) (fromPlace (n / operand)))
 
--- more than the number of every cell of a pattern
+-- more than the number of every cell of a pattern, whose offset is at most maxLetters
 abbrev pub siteBound : ℕ
-siteBound = 16896
+siteBound = operand * (maxLetters + 1)
 
--- a number that is a cell's, with an offset of 64 at most
+-- a number that is a cell's
 pub record IsSite (n : ℕ) : Type 0 where
   pub same : siteNumber (siteIn n) ≡ n
   pub small : n < siteBound
@@ -84,6 +80,10 @@ AllSites sites = (k : ℕ) → IsSite (getD sites k 0)
 -- the store of an s-variable whose cell is kept as a number
 abbrev pub storeOfSite : ℕ → ℕ
 storeOfSite n = storeWord (store (siteIn n))
+
+-- the word of a comparison of a cell, kept as a number, with another
+abbrev pub compareTestWord : ℕ → Site → ℕ
+compareTestWord kept cell = compareNumber + first * kept + secondRegister * cell .register + third * cell .offset
 
 -- the cell found under a number; p's own where none was found
 abbrev pub foundSite : ℕ → List ℕ → ℕ

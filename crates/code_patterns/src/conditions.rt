@@ -27,16 +27,15 @@ use tape_words::wide::CONDITION_WORD;
 use tape_words::wide::KIND_WIDTH;
 ghost use mathlib.Core.Path.{_≡_};
 ghost use mathlib.Core.Bool.{true};
-ghost use Prim.Native.Nat.{_+_, _*_, _/_, _%_, _≤_, _<_, _^_};
+ghost use Prim.Native.Nat.{_+_, _≤_, _<_, _^_};
 ghost use lib.ListN.{length, take, drop};
-ghost use Rattle.meaning.specs.Allowed.{maxLetters};
-ghost use Rattle.meaning.specs.Packing.{codeWord, testWord, predicateNumber, predicatePartNumber};
-ghost use Rattle.meaning.specs.Packing.{registers, partTruth, partClass};
-ghost use Rattle.tape_layout.specs.Tape.{kindWidth, classCount, conditionTruth};
-ghost use Rattle.code_patterns.specs.Testing.{first, third, truth, siteBound};
+ghost use Rattle.meaning.specs.Packing.{testWord};
+ghost use Rattle.tape_layout.specs.Tape.{kindWidth};
+ghost use Rattle.code_patterns.specs.Testing.{SmallSite, siteBound};
 ghost use Rattle.code_patterns.specs.Scans.{conditionOf};
 ghost use Rattle.code_patterns.specs.Conditioning.{located, Kept, conditionTestBy, conditionAt, conditionsDone};
-ghost use Rattle.code_patterns.specs.Conditioning.{InConditions, ConditionsOn, ConditionsAll};
+ghost use Rattle.code_patterns.specs.Conditioning.{cellTestWord, partTestWord, InConditions, ConditionsOn};
+ghost use Rattle.code_patterns.specs.Conditioning.{ConditionsAll};
 
 // Where the writing of conditions stands: how many, the tape's next word, and the code's.
 pub struct Conditions {
@@ -58,8 +57,7 @@ fn is_condition(tape: &[u32], i: usize, count: usize) -> bool
 // The test of the class and truth value that a condition's word carries, on the cell that was found.
 fn symbol_word(site: usize, carried: usize) -> usize
     requires { ⌜ (site < siteBound) × (carried < kindWidth) ⌝ }
-    ensures { λ r. ⌜ (r ≡ predicateNumber + first * site + truth * (carried / conditionTruth % 2)
-        + third * (carried % classCount)) × (r < 2 ^ 32) ⌝ }
+    ensures { λ r. ⌜ (r ≡ cellTestWord site carried) × (r < 2 ^ 32) ⌝ }
 {
     let truth = carried / CONDITION_TRUTH % 2;
     let class = carried % CLASS_COUNT;
@@ -68,12 +66,9 @@ fn symbol_word(site: usize, carried: usize) -> usize
 
 // The same on the part between two cells.
 fn part_word(from: Site, to: Site, carried: usize) -> usize
-    requires { ⌜ (from .register ≤ 2) × (from .offset ≤ maxLetters) × (to .register ≤ 2) × (to .offset ≤ maxLetters) ⌝ }
+    requires { ⌜ SmallSite from × SmallSite to ⌝ }
     requires { ⌜ carried < kindWidth ⌝ }
-    ensures { λ r. ⌜ (r ≡ codeWord predicatePartNumber
-        (from .register + registers * to .register + partTruth * (carried / conditionTruth % 2)
-        + partClass * (carried % classCount))
-        (from .offset) (to .offset)) × (r < 2 ^ 32) ⌝ }
+    ensures { λ r. ⌜ (r ≡ partTestWord from to carried) × (r < 2 ^ 32) ⌝ }
 {
     let truth = carried / CONDITION_TRUTH % 2;
     let class = carried % CLASS_COUNT;

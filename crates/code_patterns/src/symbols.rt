@@ -1,10 +1,10 @@
 // The cell that a letter of a pattern is tested at.
 use crate::pattern::Lengths;
+use arithmetic::less;
 use code_numbers::wide::FROM_END;
 use code_numbers::wide::FROM_PLACE;
 use code_numbers::wide::FROM_START;
 use tape_words::tape::Parts;
-use tape_words::tape::less;
 ghost use mathlib.Core.Path.{_≡_};
 ghost use Prim.Native.Nat.{_-_, _≤_};
 ghost use lib.ListN.{length};

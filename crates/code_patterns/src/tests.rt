@@ -25,14 +25,15 @@ ghost use Prim.Native.Nat.{_+_, _*_, _≤_, _<_, _^_};
 ghost use lib.ListN.{length, take, drop, getD, set};
 ghost use Rattle.meaning.specs.Allowed.{maxLetters};
 ghost use Rattle.meaning.specs.Instructions.{look};
-ghost use Rattle.meaning.specs.Packing.{testWord, compareNumber};
+ghost use Rattle.meaning.specs.Packing.{testWord};
+ghost use Rattle.code_numbers.specs.Numbers.{operand};
 ghost use Rattle.tape_layout.specs.Tape.{symbolWord};
 ghost use Rattle.tape_words.specs.declared.tape.Piece.the-variants.{SVariable};
 ghost use Rattle.tape_words.specs.Words.{pieceAt};
 ghost use Rattle.code_words.specs.Writing.{Wrote};
 ghost use Rattle.code_patterns.specs.Testing.{siteAt, foundSite, AllSites, InTests, TestsOn, letterDone};
 ghost use Rattle.code_patterns.specs.Testing.{partDone, testsDone, TestsAll, total, storeOfSite};
-ghost use Rattle.code_patterns.specs.Testing.{first, third, secondRegister, operand, siteBound};
+ghost use Rattle.code_patterns.specs.Testing.{SmallSite, compareTestWord, siteBound};
 
 // Where the writing of tests stands: how many e-variables came before, the offset in this template, the letters and the
 // different s-variables so far, the tape's next word, and the code's.
@@ -87,8 +88,7 @@ fn test_character(tape: &[u32], lengths: Lengths, code: &mut [u32], t: Tests) ->
 // An s-variable that the pattern did not name before.
 fn new_symbol(names: &mut [usize], sites: &mut [usize], site: Site, t: Tests, size: usize) -> Tests
     requires { ⌜ (t .symbols < length (now names)) × (t .symbols < length (now sites)) ⌝ }
-    requires { ⌜ (site .register ≤ 2) × (site .offset ≤ maxLetters) × (t .offset < 2 ^ 62) × (t .letters < 2 ^ 62) ×
-        (t .next + 1 + size < 2 ^ 62) ⌝ }
+    requires { ⌜ SmallSite site × (t .offset < 2 ^ 62) × (t .letters < 2 ^ 62) × (t .next + 1 + size < 2 ^ 62) ⌝ }
     ensures { λ r. ⌜ r ≡ letterDone t (t .symbols + 1) size (t .at) ⌝ }
     ensures { λ r. ⌜ now (names .exit) ≡ set (now (names .entry)) (t .symbols) (t .next) ⌝ }
     ensures { λ r. ⌜ now (sites .exit)
@@ -109,13 +109,11 @@ fn equal_symbol(
     t: Tests,
     size: usize,
 ) -> Tests
-    requires { ⌜ (found ≤ length (now sites)) × (foundSite found (now sites) < siteBound) × (site .register ≤ 2) ×
-        (site .offset ≤ maxLetters) × (t .at < 2 ^ 62) ⌝ }
+    requires { ⌜ (found ≤ length (now sites)) × (foundSite found (now sites) < siteBound) × SmallSite site ×
+        (t .at < 2 ^ 62) ⌝ }
     requires { ⌜ (t .offset < 2 ^ 62) × (t .letters < 2 ^ 62) × (t .next + 1 + size < 2 ^ 62) ⌝ }
     ensures { λ r. ⌜ Wrote (now (code .entry)) (t .at)
-        ((compareNumber + first * foundSite found (now (sites .entry)) + secondRegister * site .register
-        + third * site .offset) ∷ [])
-        (now (code .exit)) (r .at) ⌝ }
+        (compareTestWord (foundSite found (now (sites .entry))) site ∷ []) (now (code .exit)) (r .at) ⌝ }
     ensures { λ r. ⌜ r ≡ letterDone t (t .symbols) size (r .at) ⌝ }
 {
     let first = found_site(sites, found);

@@ -32,7 +32,8 @@ use Rattle.code_patterns.specs.Testing.{AllSites, heldSites, held, storeOfSite,
 use Rattle.code_patterns.specs.Conditioning.{located, conditionWords, ConditionsAll}
 use Rattle.code_expressions.specs.Resuming.{Means, ItemsAll}
 use Rattle.code_sentences.specs.Sentencing.{metricNumber, shapeAt, testedAt, testsAt, storesAt, actionsAt, bodyAt, sentenceAt, MatchAll}
-use Rattle.code_sentences.specs.Sentencing.{BodyAll, SentenceAll, followsAt, sentenceDone, sentencesLeft, InSentences, SentencesOn, FunctionAll}
+use Rattle.code_sentences.specs.Sentencing.{sentenceWords, BodyAll, SentenceAll}
+use Rattle.code_sentences.specs.Sentencing.{followsAt, sentenceDone, sentencesLeft, InSentences, SentencesOn, FunctionAll}
 use Rattle.meaning.proofs.laws.Remaining.{at-place}
 use Rattle.tape_words.proofs.laws.Names.{by-place}
 use Rattle.code_words.proofs.laws.Stores.{wrote-more, same-refl, same-trans, same-words, same-wrote, same-end}
@@ -279,7 +280,7 @@ pub record SentencesSoFar (ws heads : List ℕ) (start recoverer : ℕ) (code₀
       → Same code₀ 0 (packSentences (translatedSentences t recoverer (sentencesOnTape maxSentences (drop start ws)))) code (s .at)
       (sentencesLeft (s .more) t recoverer ws s)
   pub within : InSentences ws s
-  pub grown : s .at ≤ 35000 * s .count
+  pub grown : s .at ≤ sentenceWords * s .count
 
 pub sentences-go-on : {ws heads : List ℕ} {start recoverer : ℕ} {code₀ code code′ : List ℕ} {s r : Sentences}
     → SentencesSoFar ws heads start recoverer code₀ code s → s .more ≡ true → SentencesOn ws heads code s code′ r

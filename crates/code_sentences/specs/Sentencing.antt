@@ -1,12 +1,12 @@
 -- A sentence's words and a function's, as they are written one after another.
-use Prim.Native.Nat.{ℕ, _+_, _-_, _≤_}
+use Prim.Native.Nat.{ℕ, _+_, _-_, _*_, _≤_}
 use mathlib.Core.Path.{_≡_}
 use mathlib.Core.Bool.{Bool, true, false}
 use mathlib.Core.List.{List, [], _∷_, _++_, map}
 use lib.ListN.{length, take, drop}
 use Rattle.meaning.specs.Choice.{pick}
 use Rattle.meaning.specs.Tree.{Table}
-use Rattle.meaning.specs.Allowed.{namesOf, maxSentences, maxLetters}
+use Rattle.meaning.specs.Allowed.{namesOf, maxSentences, maxLetters, maxConditions}
 use Rattle.meaning.specs.Instructions.{Test, Store, Action}
 use Rattle.meaning.specs.Translation.{Shape, shapeOf, metricOf, Tested, testedShape, testsOf, storesOf, actionsOf}
 use Rattle.meaning.specs.Translation.{translatedSentences}
@@ -19,7 +19,9 @@ use Rattle.code_sentences.specs.declared.Sentences.{Sentences}
 use Rattle.tape_words.specs.Words.{headNames}
 use Rattle.code_sentences.specs.Trees.{isNextWord, conditionsAt, levelsAt, sentencesOnTape}
 use Rattle.code_patterns.specs.Scans.{patternAt}
+use Rattle.code_numbers.specs.Numbers.{sentenceHead}
 use Rattle.code_words.specs.Writing.{Wrote, Same}
+use Rattle.code_expressions.specs.Resuming.{expressionWords}
 use Rattle.code_patterns.specs.Measuring.{flag}
 
 -- the number of a metric's word, by how many e-variables there are
@@ -27,6 +29,26 @@ abbrev pub metricNumber : Parts → ℕ
 metricNumber Zero = exactlyNumber
 metricNumber One = endsNumber
 metricNumber Two = middleNumber
+
+-- THE MOST WORDS
+
+-- a sentence's tests: one for each letter of its pattern, and for each condition
+abbrev pub maxTests : ℕ
+maxTests = maxLetters + maxConditions
+
+-- its tests and stores; with its actions; and all of it
+abbrev pub matchWords : ℕ
+matchWords = maxTests + maxLetters
+
+abbrev pub mostBodyWords : ℕ
+mostBodyWords = matchWords + expressionWords
+
+abbrev pub sentenceWords : ℕ
+sentenceWords = sentenceHead + mostBodyWords
+
+-- a function, with the word that ends it
+abbrev pub functionWords : ℕ
+functionWords = sentenceWords * maxSentences + 1
 
 -- OF THE SENTENCE THAT BEGINS WITH SOME WORDS
 
@@ -62,8 +84,8 @@ pub record MatchAll (ws : List ℕ) (start : ℕ) (code : List ℕ) (at : ℕ) (
   pub symbols : map (λ x. x .name) (testedAt (drop start ws) .sites) ≡ headNames ws (take (r .symbols) names)
   pub rest : drop (r .next) ws ≡ conditionsAt (drop start ws) .rest
   pub next : r .next ≤ length ws
-  pub few : (r .tests ≤ 72) × (r .symbols ≤ maxLetters)
-  pub grown : r .at ≤ at + 136
+  pub few : (r .tests ≤ maxTests) × (r .symbols ≤ maxLetters)
+  pub grown : r .at ≤ at + matchWords
 
 -- its tests, stores and actions are written
 pub record BodyAll (ws heads : List ℕ) (start : ℕ) (code : List ℕ) (at : ℕ) (code′ : List ℕ) (r : Body) : Type 0 where
@@ -72,8 +94,8 @@ pub record BodyAll (ws heads : List ℕ) (start : ℕ) (code : List ℕ) (at : �
   pub stores : r .symbols ≡ length (storesAt (drop start ws))
   pub rest : drop (r .next) ws ≡ levelsAt (drop start ws) .rest
   pub next : r .next ≤ length ws + 1
-  pub few : (r .tests ≤ 72) × (r .symbols ≤ maxLetters)
-  pub grown : r .at ≤ at + 34800
+  pub few : (r .tests ≤ maxTests) × (r .symbols ≤ maxLetters)
+  pub grown : r .at ≤ at + mostBodyWords
 
 -- all its words are written
 pub record SentenceAll (ws heads : List ℕ) (start : ℕ) (code : List ℕ) (at : ℕ) (code′ : List ℕ)
@@ -81,7 +103,7 @@ pub record SentenceAll (ws heads : List ℕ) (start : ℕ) (code : List ℕ) (at
   pub wrote : (t : Table) → namesOf t ≡ headNames ws heads → Wrote code at (sentenceAt t (drop start ws)) code′ (r .at)
   pub rest : drop (r .next) ws ≡ levelsAt (drop start ws) .rest
   pub next : r .next ≤ length ws + 1
-  pub grown : r .at ≤ at + 35000
+  pub grown : r .at ≤ at + sentenceWords
 
 -- THE SENTENCES OF A FUNCTION
 
@@ -117,11 +139,11 @@ pub record SentencesOn (ws heads code : List ℕ) (s : Sentences) (code′ : Lis
       → Same code (s .at) (sentencesLeft true t recoverer ws s) code′ (r .at) (sentencesLeft (r .more) t recoverer ws r)
   pub within : InSentences ws r
   pub ahead : r .count ≡ s .count + 1
-  pub grown : r .at ≤ s .at + 35000
+  pub grown : r .at ≤ s .at + sentenceWords
 
 -- all sentences are written, from the start of what is lent
 pub record FunctionAll (ws heads : List ℕ) (start recoverer : ℕ) (code code′ : List ℕ) (r : ℕ) : Type 0 where
   pub wrote : (t : Table) → namesOf t ≡ headNames ws heads
       → Wrote code 0 (packSentences (translatedSentences t recoverer (sentencesOnTape maxSentences (drop start ws))))
       code′ r
-  pub grown : r ≤ 17920001
+  pub grown : r ≤ functionWords

@@ -27,6 +27,7 @@ ghost use lib.Dec.{leb};
 ghost use lib.ListN.{length, drop};
 ghost use Rattle.meaning.specs.Allowed.{maxFunctions, maxLetters, maxSentences};
 ghost use Rattle.meaning.specs.Packing.{codeWord};
+ghost use Rattle.code_numbers.specs.Numbers.{third};
 ghost use Rattle.code_words.specs.Writing.{Wrote};
 ghost use Rattle.code_patterns.specs.Measuring.{MeasuresAll};
 ghost use Rattle.code_patterns.specs.Testing.{total, AllSites};
@@ -201,7 +202,7 @@ pub fn write_function(
     recoverer: usize,
     code: &mut [u32],
 ) -> usize
-    requires { ⌜ (length (now heads) ≤ maxFunctions) × (start ≤ length (now tape)) × (recoverer < 2 ^ 24) ⌝ }
+    requires { ⌜ (length (now heads) ≤ maxFunctions) × (start ≤ length (now tape)) × (recoverer < third) ⌝ }
     ensures { λ r. ⌜ FunctionAll (now (tape .entry)) (now (heads .entry)) start recoverer (now (code .entry))
         (now (code .exit)) r ⌝ }
 {

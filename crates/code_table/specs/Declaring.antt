@@ -12,6 +12,7 @@ use Rattle.meaning.specs.Translation.{translatedFunction}
 use Rattle.meaning.specs.Packing.{packSentences, pack}
 use Rattle.tape_words.specs.Words.{headNames}
 use Rattle.code_sentences.specs.Trees.{functionsOnTape, functionOnTape}
+use Rattle.code_sentences.specs.Sentencing.{functionWords}
 use Rattle.code_words.specs.Writing.{Wrote}
 
 -- THE HEADS: the places of the functions' words
@@ -57,7 +58,7 @@ pub record EntryAll (ws heads : List ℕ) (k : ℕ) (part : List ℕ) (at : ℕ)
   pub next : (t : Table) → namesOf t ≡ headNames ws heads → r
       ≡ at + length (packSentences (translatedAt t ws (getD heads k 0)))
   pub ahead : at ≤ r
-  pub grown : r ≤ at + 17920001
+  pub grown : r ≤ at + functionWords
 
 -- the table and the functions are written
 pub record FunctionsAll (ws heads code code′ : List ℕ) (r : ℕ) : Type 0 where

@@ -1,9 +1,9 @@
 // The functions of a tape, and the table of their places before them.
+use arithmetic::lesser;
 use code_sentences::write_function;
 use code_words::put;
 use tape_words::limits::MAX_FUNCTIONS;
 use tape_words::names::find_recoverer;
-use tape_words::tape::lesser;
 use tape_words::tape::name_size;
 use tape_words::tape::of_kind;
 use tape_words::tape::room;

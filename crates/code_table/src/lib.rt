@@ -1,10 +1,10 @@
 // From the tape of a table to packed code words.
 pub mod functions;
 
+use arithmetic::lesser;
 use code_words::clear_from;
 use functions::write_table;
 use tape_words::limits::MAX_TABLE;
-use tape_words::tape::lesser;
 ghost use lib.ListN.{length, take};
 ghost use Rattle.code_table.specs.Leaves.{codeOf, LeavesCode};
 

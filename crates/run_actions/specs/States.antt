@@ -31,10 +31,43 @@ abbrev pub memory : Bytes → Bytes → Bytes → List ℕ → Bytes → Memory
 memory input output «record» frames values =
     record { input = input; output = output; «record» = «record»; frames = frames; values = values }
 
--- the words of a frame; those of so many frames, with the counts of applications before them; and the stored values of
--- so many frames
+-- the bytes of an emission's line beside its name and argument: a blank, and the line's end
+abbrev pub lineMarks : ℕ
+lineMarks = 2
+
+-- how many lengths a span may name
+abbrev pub lengthCount : ℕ
+lengthCount = suc rightNumber
+
+-- the words that a frame keeps, by their names; the lengths stand at their numbers
+abbrev pub nullSlot : ℕ
+nullSlot = nullNumber
+
+abbrev pub wholeSlot : ℕ
+wholeSlot = wholeNumber
+
+abbrev pub leftSlot : ℕ
+leftSlot = leftNumber
+
+abbrev pub rightSlot : ℕ
+rightSlot = rightNumber
+
+abbrev pub storedSlot : ℕ
+storedSlot = lengthCount
+
+abbrev pub openedSlot : ℕ
+openedSlot = suc storedSlot
+
+abbrev pub returnSlot : ℕ
+returnSlot = suc openedSlot
+
+abbrev pub selectionSlot : ℕ
+selectionSlot = suc returnSlot
+
+-- all words of a frame, with r at each open BeginSeq; those of so many frames, with the counts of applications before
+-- them; and the stored values of so many frames
 abbrev pub frameWords : ℕ
-frameWords = 24
+frameWords = suc selectionSlot + maxOpened
 
 abbrev pub wordsFor : ℕ → ℕ
 wordsFor n = maxCounted + frameWords * n
@@ -69,31 +102,6 @@ wordsIn frames = drop maxCounted frames
 abbrev pub frameWord : ℕ → ℕ → List ℕ → ℕ
 frameWord k i frames = getD (wordsIn frames) (frameWords * k + i) 0
 
--- by their names; the lengths stand at their numbers
-abbrev pub nullSlot : ℕ
-nullSlot = nullNumber
-
-abbrev pub wholeSlot : ℕ
-wholeSlot = wholeNumber
-
-abbrev pub leftSlot : ℕ
-leftSlot = leftNumber
-
-abbrev pub rightSlot : ℕ
-rightSlot = rightNumber
-
-abbrev pub storedSlot : ℕ
-storedSlot = 4
-
-abbrev pub openedSlot : ℕ
-openedSlot = 5
-
-abbrev pub returnSlot : ℕ
-returnSlot = 6
-
-abbrev pub selectionSlot : ℕ
-selectionSlot = 7
-
 -- a word of a frame stored
 abbrev pub withWord : ℕ → ℕ → ℕ → List ℕ → List ℕ
 withWord k i v frames = set frames (maxCounted + (frameWords * k + i)) v
@@ -107,7 +115,7 @@ localAt k frames values =
     record {
       field = frameWord k wholeSlot frames;
       place = frameWord k leftSlot frames;
-      values = take (frameWord k storedSlot frames) (drop (maxStored * k) (take (maxStored * k + maxStored) values));
+      values = take (frameWord k storedSlot frames) (drop (valuesFor k) (take (valuesFor k + maxStored) values));
       opened = drop (frameWords * k + frameWords - frameWord k openedSlot frames)
           (take (frameWords * k + frameWords) (wordsIn frames));
     }
@@ -138,7 +146,7 @@ callingFrom k at end frames = withWord k selectionSlot end (withWord k returnSlo
 abbrev pub openedAt : ℕ → ℕ → List ℕ → List ℕ
 openedAt k r frames =
     let count = frameWord k openedSlot frames in
-    withWord k openedSlot (count + 1) (withWord k (23 - count) r frames)
+    withWord k openedSlot (count + 1) (withWord k (frameWords - 1 - count) r frames)
 
 abbrev pub Opens : ℕ → ℕ → List ℕ → List ℕ → Bool → Type 0
 Opens k r before after true = (frameWord k openedSlot before < maxOpened) × (after ≡ openedAt k r before)
@@ -181,8 +189,8 @@ ledgerOf allowance g m =
       mark = tt;
     }
 
-abbrev pub roomOf : Memory → Room
-roomOf m =
+abbrev pub memoryRoom : Memory → Room
+memoryRoom m =
     record {
       inCells = length (m .input);
       outCells = length (m .output);
@@ -256,8 +264,8 @@ outcomeAfter allowance k (Deeper g) m = k (g .at .0) (localOf g m) (stacksOf g m
 pub record Writes (action : Action) (text : Bytes) (g : Registers) (m : Memory) : Type 0 where
   pub same : (allowance : ℕ) (code : Code) (enter : ℕ → ℕ → Stacks → Ledgers → Outcomes) (k : Continuation) →
       let s = stacksOf g m in
-      perform (lent (roomOf m)) code enter k (suc (g .frame)) action (localOf g m) s (ledgerOf allowance g m) ≡
-      noting (lent (roomOf m)) (outCells (length (s .output) + length text)) (ledgerOf allowance g m)
+      perform (lent (memoryRoom m)) code enter k (suc (g .frame)) action (localOf g m) s (ledgerOf allowance g m) ≡
+      noting (lent (memoryRoom m)) (outCells (length (s .output) + length text)) (ledgerOf allowance g m)
       (k (localOf g m) (movedOn (s .selected) (withOutput (s .output ++ text) s)))
 
 -- an action preserves the invariant and all but its own cells, and goes on at a place of the code, in the same frame
@@ -286,6 +294,6 @@ pub record ImplementsAction (action : Action) (at : ℕ) (g : Registers) (m : Me
     (next : Next) (n : Memory) : Type 0 where
   pub same : (allowance : ℕ) (code : Code) (enter : ℕ → ℕ → Stacks → Ledgers → Outcomes) (k : Continuation) →
       let l = ledgerOf allowance g m in
-      perform (lent (roomOf m)) code enter k (suc (g .frame)) action (localOf g m) (stacksOf g m) l ≡
+      perform (lent (memoryRoom m)) code enter k (suc (g .frame)) action (localOf g m) (stacksOf g m) l ≡
       outcomeAfter allowance (λ place. k) next n
   pub preserves : PreservesOrStops at g m next n

@@ -10,6 +10,7 @@ use crate::moving::write_text;
 use crate::registers::Next;
 use crate::registers::Registers;
 use answers::Ending;
+use run_angles::ANGLE_BYTES;
 use run_angles::Angled;
 use run_angles::compute_angles;
 use run_cells::places::part;
@@ -23,7 +24,7 @@ pub fn compute(g: Registers, subtract: bool, input: &[u8], output: &mut [u8]) ->
         ImplementsAction (computing (operation subtract)) (g .at .0) g m r n) ⌝ }
 {
     let argument = part(input, g.p, g.q);
-    let mut result = [0u8; 7];
+    let mut result = [0u8; ANGLE_BYTES];
     match compute_angles(subtract, argument, &mut result) {
         Angled::Sum(count) => write_text(g, &result[0..count], output),
         Angled::NotAngles => Next::Stopped(g, Ending::ArgumentNotAngles, 0),

@@ -9,14 +9,18 @@ ghost use Rattle.meaning.specs.Choice.{Bytes};
 ghost use Rattle.meaning.specs.Outcome.{emittedLine};
 ghost use Rattle.meaning.specs.Packing.{emissionOf};
 ghost use Rattle.run_decoding.specs.Decoded.{isName};
-ghost use Rattle.run_actions.specs.States.{memory, SelectionWithin, ImplementsAction};
+ghost use Rattle.run_actions.specs.States.{lineMarks, memory, SelectionWithin, ImplementsAction};
 use crate::registers::Next;
 use crate::registers::Registers;
 use answers::Ending;
+use code_numbers::OPERAND;
 use run_cells::copying::copy_to_record;
 use run_cells::places::RecordByte;
 use run_cells::places::part;
 use run_code_places::CodePlace;
+
+// The bytes of a line beside its name and argument: a blank, and the line's end.
+const LINE_MARKS: usize = 2;
 
 // Whether so many words from a place on are there and are bytes.
 fn named(code: &[u32], name: CodePlace, size: usize) -> bool
@@ -29,7 +33,7 @@ fn named(code: &[u32], name: CodePlace, size: usize) -> bool
     }
     let mut i = 0;
     while i < size {
-        if 255 < code[at + i] {
+        if OPERAND <= code[at + i] {
             return false;
         }
         i += 1;
@@ -47,12 +51,12 @@ fn copy_name(record: &mut [u8], to: RecordByte, code: &[u32], name: CodePlace, s
     let first = to.0;
     let mut i = 0;
     while i < size {
-        record[first + i] = (code[at + i] % 256) as u8;
+        record[first + i] = (code[at + i] % OPERAND) as u8;
         i += 1;
     }
 }
 
-// Name, byte 32, argument, byte 10.
+// Name, blank, argument, line end.
 fn write_line(
     record: &mut [u8],
     to: RecordByte,
@@ -62,18 +66,18 @@ fn write_line(
     argument: &[u8],
 )
     requires { ⌜ isName size (drop (name .0) (now code)) ≡ true ⌝ }
-    requires { ⌜ to .0 + (size + length (now argument) + 2) ≤ length (now «record») ⌝ }
+    requires { ⌜ to .0 + (size + length (now argument) + lineMarks) ≤ length (now «record») ⌝ }
     ensures pastes { λ _. ⌜ (let spelled = take size (drop (name .0) (now (code .entry))) in
         let line = emittedLine spelled (now (argument .entry)) in
-        let count = size + length (now (argument .entry)) + 2 in
+        let count = size + length (now (argument .entry)) + lineMarks in
         now («record» .exit) ≡ paste (now («record» .entry)) (to .0) line count) ⌝ }
 {
     copy_name(record, to, code, name, size);
     let gap = to.0 + size;
-    record[gap] = 32;
+    record[gap] = b' ';
     copy_to_record(record, RecordByte(gap + 1), argument);
     let end = gap + 1 + argument.len();
-    record[end] = 10;
+    record[end] = b'\n';
 }
 
 // The place so many words on.
@@ -98,7 +102,7 @@ pub fn emit(g: Registers, code: &[u32], size: usize, input: &[u8], record: &mut 
     }
     let argument = part(input, g.p, g.q);
     let emitted = g.emitted;
-    let line = size + argument.len() + 2;
+    let line = size + argument.len() + LINE_MARKS;
     if record.len() - emitted < line {
         return Next::Stopped(g, Ending::RecordFull, 0);
     }

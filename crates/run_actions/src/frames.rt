@@ -5,10 +5,12 @@ ghost use mathlib.Core.List.{_++_};
 ghost use lib.ListN.{length, take, drop};
 ghost use Rattle.meaning.specs.Outcome.{maxCounted, uncounted};
 ghost use Rattle.meaning.specs.Leaving.{maxFrames};
+ghost use Rattle.meaning.specs.Machine.{maxOpened};
 ghost use Rattle.run_actions.specs.States.{frameWords, firstFrames, wordsFor, valuesFor, FrameWithin};
 ghost use Rattle.run_actions.specs.States.{crowdedAt, withWord, frameWord};
 ghost use Rattle.run_actions.specs.States.{countsIn, countedIn, CountsWithin, begun, callingFrom};
-ghost use Rattle.run_actions.specs.States.{openedSlot, returnSlot, selectionSlot, storedSlot};
+ghost use Rattle.run_actions.specs.States.{lengthCount, openedSlot, returnSlot, selectionSlot, storedSlot};
+use arithmetic::less;
 use code_numbers::wide::LEFT;
 use code_numbers::wide::MAX_STORED;
 use code_numbers::wide::NULL;
@@ -16,13 +18,12 @@ use code_numbers::wide::RIGHT;
 use code_numbers::wide::WHOLE;
 use run_cells::places::InCell;
 use run_cells::places::OutCell;
-use run_cells::places::less;
 use run_code_places::CodePlace;
 
 // The start is frame 0.
 pub const FRAMES: usize = 256;
 // How many lengths a span may name, by their numbers: 0, d, dl and dr.
-pub const LENGTHS: usize = 4;
+pub const LENGTH_COUNT: usize = RIGHT + 1;
 // How many sequences may be open in one frame.
 pub const OPEN_SEQUENCES: usize = 16;
 // How many values a frame stores.
@@ -30,15 +31,15 @@ pub const FRAME_VALUES: usize = MAX_STORED;
 
 // A frame's words: the lengths by their numbers, how many values are stored, how many sequences are open, where its
 // call returns to, q as the call was made; and r at each open BeginSeq, the latest first, up to the end.
-const FRAME_WORDS: usize = 24;
+const FRAME_WORDS: usize = SELECTION + 1 + OPEN_SEQUENCES;
 
-const STORED: usize = 4;
+const STORED: usize = LENGTH_COUNT;
 
-const OPENED: usize = 5;
+const OPENED: usize = STORED + 1;
 
-const RETURN: usize = 6;
+const RETURN: usize = OPENED + 1;
 
-const SELECTION: usize = 7;
+const SELECTION: usize = RETURN + 1;
 
 // How many functions are counted, before the frames.
 pub const COUNTED: usize = 64;
@@ -135,7 +136,7 @@ pub fn begin_frame(frames: &mut [usize], frame: usize, field: usize, place: usiz
 // The length that has a number.
 pub fn length_numbered(frames: &[usize], frame: usize, number: usize) -> usize
     requires { ⌜ FrameWithin frame (now frames) ⌝ }
-    requires { ⌜ number < 4 ⌝ }
+    requires { ⌜ number < lengthCount ⌝ }
     ensures result { λ r. ⌜ r ≡ frameWord frame number (now (frames .entry)) ⌝ }
 {
     word(frames, frame, number)
@@ -166,7 +167,7 @@ pub fn set_open_sequences(frames: &mut [usize], frame: usize, opened: usize)
 pub fn sequence_start(frames: &[usize], frame: usize, opened: usize) -> OutCell
     requires { ⌜ FrameWithin frame (now frames) ⌝ }
     requires { ⌜ 0 < opened ⌝ }
-    requires { ⌜ opened ≤ 16 ⌝ }
+    requires { ⌜ opened ≤ maxOpened ⌝ }
     ensures result { λ r. ⌜ r .0 ≡ frameWord frame (frameWords - opened) (now (frames .entry)) ⌝ }
 {
     OutCell(word(frames, frame, FRAME_WORDS - opened))
@@ -175,8 +176,9 @@ pub fn sequence_start(frames: &[usize], frame: usize, opened: usize) -> OutCell
 // A further sequence begins, so many being open.
 pub fn keep_sequence_start(frames: &mut [usize], frame: usize, opened: usize, r: OutCell)
     requires { ⌜ FrameWithin frame (now frames) ⌝ }
-    requires { ⌜ opened < 16 ⌝ }
-    ensures leaves { λ _. ⌜ now (frames .exit) ≡ withWord frame (23 - opened) (r .0) (now (frames .entry)) ⌝ }
+    requires { ⌜ opened < maxOpened ⌝ }
+    ensures leaves { λ _. ⌜ now (frames .exit) ≡
+        withWord frame (frameWords - 1 - opened) (r .0) (now (frames .entry)) ⌝ }
 {
     set_word(frames, frame, FRAME_WORDS - 1 - opened, r.0);
 }

@@ -7,12 +7,13 @@ ghost use Rattle.meaning.specs.Choice.{Bytes};
 ghost use Rattle.meaning.specs.Instructions.{Action, go as going, select as selecting, out, outC, outV};
 ghost use Rattle.meaning.specs.Instructions.{beginSeq, useSeq};
 ghost use Rattle.meaning.specs.Packing.{firstIn, secondIn, thirdIn, lengthOf};
+ghost use Rattle.code_numbers.specs.Numbers.{operand};
 ghost use Rattle.run_decoding.specs.Decoded.{spanMeant, writeMeant};
 ghost use Rattle.run_actions.specs.States.{memory, Paired, localAt, Held, Opens, Writes};
 ghost use Rattle.run_actions.specs.States.{SelectionWithin, FrameWithin, ImplementsAction};
 ghost use Rattle.run_actions.specs.Spans.{withinCells, cellsOf, reachedBy};
 use crate::frames::FRAME_VALUES;
-use crate::frames::LENGTHS;
+use crate::frames::LENGTH_COUNT;
 use crate::frames::OPEN_SEQUENCES;
 use crate::frames::keep_sequence_start;
 use crate::frames::length_numbered;
@@ -23,6 +24,7 @@ use crate::frames::stored_values;
 use crate::registers::Next;
 use crate::registers::Registers;
 use answers::Ending;
+use arithmetic::less;
 use code_numbers::FIRST;
 use code_numbers::OPERAND;
 use code_numbers::SECOND;
@@ -36,7 +38,6 @@ use run_cells::places::cell_after;
 use run_cells::places::cells_below;
 use run_cells::places::cells_from;
 use run_cells::places::earlier;
-use run_cells::places::less;
 use run_cells::places::out_after;
 use run_cells::places::part;
 use run_cells::places::put;
@@ -57,7 +58,7 @@ pub enum Reached {
 
 // cells + add - back, if that many cells are there
 fn within(cells: usize, add: usize, back: usize, there: usize) -> Cells
-    requires { ⌜ back < 256 ⌝ }
+    requires { ⌜ back < operand ⌝ }
     requires { ⌜ there < 2 ^ 63 ⌝ }
     ensures result { λ r. ⌜ r ≡ withinCells (cells + add - back) there ⌝ }
 {
@@ -81,7 +82,7 @@ fn span_cells(frames: &[usize], frame: usize, span: u32, there: usize) -> Cells
         r ≡ cellsOf (lengthOf (firstIn span)) (secondIn span) (thirdIn span) local there) ⌝ }
 {
     let register = wide(span / FIRST % OPERAND);
-    if LENGTHS <= register {
+    if LENGTH_COUNT <= register {
         return Cells::Wrong;
     }
     let add = wide(span / SECOND % OPERAND);

@@ -68,11 +68,18 @@ pub record Worked (op : Operation) (first second : Option ℤ) (r : Value) : Typ
   pub value : knownValue r ≡ meant op first second
   pub low : knownSize r ≤ 2 * maxMinutes
 
+-- the most digits of an angle's degrees
+abbrev pub degreeDigits : ℕ
+degreeDigits = 3
+
 -- a sign is written only below zero
+abbrev pub dash : ℕ
+dash = 45
+
 abbrev pub signText : Bool → ℕ → Bytes
 signText below zero = []
 signText false (suc n) = []
-signText true (suc n) = 45 ∷ []
+signText true (suc n) = dash ∷ []
 
 -- what a call hands back, and what it leaves in the lent bytes
 pub record Left : Type 0 where

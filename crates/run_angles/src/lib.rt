@@ -7,7 +7,26 @@ ghost use Rattle.meaning.specs.Angles.{operation, numeralIn, sizeIn, signed, an
 ghost use Rattle.meaning.specs.Numerals.{decimal, twoDigits};
 ghost use Rattle.byte_writing.specs.Put.{Put, farthest};
 ghost use Rattle.run_angles.specs.Post.{Cut, numberRead, AngleFound, valueOf, sizeOf, Total, Worked, signText};
-ghost use Rattle.run_angles.specs.Post.{leftWith, leaves};
+ghost use Rattle.run_angles.specs.Post.{leftWith, leaves, degreeDigits};
+
+// The byte `0`, which the other digits follow.
+const ZERO: u32 = b'0' as u32;
+
+// An angle is a sign, up to three digits of degrees, a colon and two digits of minutes.
+const DEGREE_DIGITS: usize = 3;
+
+const MINUTE_DIGITS: usize = 2;
+
+pub const ANGLE_BYTES: usize = 1 + DEGREE_DIGITS + 1 + MINUTE_DIGITS;
+
+// How many minutes a degree has. Of the greatest angle, 359:59: its degrees, its minutes, and all of it in minutes.
+const DEGREE: u32 = 60;
+
+const MAX_DEGREES: u32 = 359;
+
+const LAST_MINUTE: u32 = DEGREE - 1;
+
+const MAX_MINUTES: u32 = DEGREE * MAX_DEGREES + LAST_MINUTE;
 
 // What a call comes to: so many bytes of the result, or one of two faults.
 pub enum Angled {
@@ -56,7 +75,7 @@ fn place_of(text: &[u8], byte: u8) -> usize
 
 // A number of so many digits, from the first count to the second, and up to the greatest.
 fn number_in(text: &[u8], least: usize, most: usize, greatest: u32) -> Number
-    requires { ⌜ most ≤ 3 ⌝ }
+    requires { ⌜ most ≤ degreeDigits ⌝ }
     ensures { λ r. ⌜ r ≡ numberRead (numeralIn least most greatest (now (text .entry))) ⌝ }
 {
     if text.len() < least {
@@ -69,13 +88,13 @@ fn number_in(text: &[u8], least: usize, most: usize, greatest: u32) -> Number
     let mut at = 0;
     while at < text.len() {
         let byte = text[at];
-        if byte < 48 {
+        if byte < b'0' {
             return Number::Nothing;
         }
-        if 57 < byte {
+        if b'9' < byte {
             return Number::Nothing;
         }
-        let digit = (byte - 48) as u32;
+        let digit = (byte - b'0') as u32;
         value = 10 * value + digit;
         at += 1;
     }
@@ -93,14 +112,15 @@ fn size_in(text: &[u8]) -> Number
     if colon == text.len() {
         return Number::Nothing;
     }
-    let Number::Of(degrees) = number_in(&text[0..colon], 1, 3, 359) else {
+    let Number::Of(degrees) = number_in(&text[0..colon], 1, DEGREE_DIGITS, MAX_DEGREES) else {
         return Number::Nothing;
     };
     let after = colon + 1;
-    let Number::Of(minutes) = number_in(&text[after..], 2, 2, 59) else {
+    let Number::Of(minutes) = number_in(&text[after..], MINUTE_DIGITS, MINUTE_DIGITS, LAST_MINUTE)
+    else {
         return Number::Nothing;
     };
-    Number::Of(60 * degrees + minutes)
+    Number::Of(DEGREE * degrees + minutes)
 }
 
 fn angle_in(text: &[u8]) -> Angle
@@ -150,8 +170,8 @@ fn put_two(number: u32, out: &mut [u8], at: usize) -> usize
     requires { ⌜ (number < 100) × (at + 1 < farthest) ⌝ }
     ensures { λ r. ⌜ Put at (now (out .entry)) (twoDigits number) r (now (out .exit)) ⌝ }
 {
-    let tens = (48 + number / 10) as u8;
-    let ones = (48 + number % 10) as u8;
+    let tens = (ZERO + number / 10) as u8;
+    let ones = (ZERO + number % 10) as u8;
     let next = put(out, at, tens);
     put(out, next, ones)
 }
@@ -162,13 +182,13 @@ fn put_number(number: u32, out: &mut [u8], at: usize) -> usize
     ensures { λ r. ⌜ Put at (now (out .entry)) (decimal number) r (now (out .exit)) ⌝ }
 {
     if number < 10 {
-        let ones = (48 + number) as u8;
+        let ones = (ZERO + number) as u8;
         return put(out, at, ones);
     }
     if number < 100 {
         return put_two(number, out, at);
     }
-    let hundreds = (48 + number / 100) as u8;
+    let hundreds = (ZERO + number / 100) as u8;
     let next = put(out, at, hundreds);
     put_two(number % 100, out, next)
 }
@@ -191,9 +211,9 @@ fn put_angle(below: bool, size: u32, out: &mut [u8]) -> usize
     ensures { λ r. ⌜ Put 0 (now (out .entry)) (angleText (signed below size)) r (now (out .exit)) ⌝ }
 {
     let degrees = put_sign(below, size, out);
-    let colon = put_number(size / 60, out, degrees);
+    let colon = put_number(size / DEGREE, out, degrees);
     let minutes = put(out, colon, b':');
-    put_two(size % 60, out, minutes)
+    put_two(size % DEGREE, out, minutes)
 }
 
 // A value with an angle added to it, or taken from it.
@@ -221,7 +241,7 @@ fn worked(subtract: bool, first: Angle, second: Angle) -> Value
 }
 
 // DmAdd, or DmSub where `subtract` is set: the result's bytes come first in what is lent, and the others stay.
-pub fn compute_angles(subtract: bool, argument: &[u8], result: &mut [u8; 7]) -> Angled
+pub fn compute_angles(subtract: bool, argument: &[u8], result: &mut [u8; ANGLE_BYTES]) -> Angled
     ensures { λ r. ⌜ leftWith r (now (result .exit)) ≡
         leaves (angled (operation subtract) (now (argument .entry))) (now (result .entry)) ⌝ }
 {
@@ -236,7 +256,7 @@ pub fn compute_angles(subtract: bool, argument: &[u8], result: &mut [u8; 7]) -> 
         return Angled::NotAngles;
     };
     let size = value.size;
-    if 21599 < size {
+    if MAX_MINUTES < size {
         return Angled::OutOfRange;
     }
     let count = put_angle(value.below, size, result);

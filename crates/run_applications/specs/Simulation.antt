@@ -15,7 +15,7 @@ use Rattle.meaning.specs.Packing.{Words, unpackStores, unpackActions}
 use Rattle.run_actions.specs.declared.registers.Registers.{Registers}
 use Rattle.run_actions.specs.declared.registers.Next.{Next}
 use Rattle.run_actions.specs.declared.registers.Next.the-variants.{Onward, Done, Stopped, Deeper}
-use Rattle.run_actions.specs.States.{crowdedAt, Memory, Held, CountsWithin, stacksOf, ledgerOf, roomOf, Outcomes}
+use Rattle.run_actions.specs.States.{crowdedAt, Memory, Held, CountsWithin, stacksOf, ledgerOf, memoryRoom, Outcomes}
 use Rattle.run_actions.specs.States.{WrittenWithin, WithinRoom}
 use Rattle.run_applications.specs.Waiting.{functionsIn, entering, returning, outcomeFrom, Waits, outcomeOfAction}
 use Rattle.run_applications.specs.Waiting.{measureBelow, measure}
@@ -58,9 +58,9 @@ registersIn (Deeper g) = g
 -- answer, the room is as it was, and so is the record past the emissions
 pub record Simulates (words : Words) (allowance : ℕ) (tocome : Outcomes) (g : Registers) (m : Memory)
     (next : Next) (n : Memory) : Type 0 where
-  pub same : tocome ≡ outcomeFrom (roomOf m) allowance words next n
+  pub same : tocome ≡ outcomeFrom (memoryRoom m) allowance words next n
   pub invariant : NextInvariant allowance next n
-  pub room : roomOf n ≡ roomOf m
+  pub room : memoryRoom n ≡ memoryRoom m
   pub beyond : (old : Bytes) → drop (g .emitted) (m .«record») ≡ drop (g .emitted) old →
       drop (registersIn next .emitted) (n .«record») ≡ drop (registersIn next .emitted) old
 
@@ -76,7 +76,7 @@ pub record SimulatesBelow (words : Words) (allowance : ℕ) (tocome : Outcomes) 
 abbrev pub SimulatesAction : Words → ℕ → Action → ℕ → Registers → Memory → Next → Memory → Type 0
 SimulatesAction words allowance action at g m next n =
     Invariant allowance g m →
-    SimulatesBelow words allowance (outcomeOfAction (roomOf m) allowance words action at g m)
+    SimulatesBelow words allowance (outcomeOfAction (memoryRoom m) allowance words action at g m)
     (suc (measure (length words) allowance (Onward g) m)) g m next n
 
 -- an application of a function in the frame of the registers
@@ -85,8 +85,8 @@ SimulatesApplication words allowance number g m next n =
     let l = ledgerOf allowance g m in
     Invariant allowance g m →
     SimulatesBelow words allowance
-    (returning (roomOf m) allowance words g m
-    (ranPaid (lent (roomOf m)) (functionsIn words) (entering (roomOf m) allowance words) (suc (g .frame)) number
+    (returning (memoryRoom m) allowance words g m
+    (ranPaid (lent (memoryRoom m)) (functionsIn words) (entering (memoryRoom m) allowance words) (suc (g .frame)) number
     (stacksOf g m) l (pay number (l .tally))))
     (suc (measureBelow (length words) allowance g m))
     g m next n
@@ -99,8 +99,9 @@ SimulatesSentence words allowance at stores stored g m next n =
     let field = take (g .q .0 - g .p .0) (drop (g .p .0) (m .input)) in
     ReadyToApply allowance g m →
     SimulatesBelow words allowance
-    (returning (roomOf m) allowance words g m
-    (started (lent (roomOf m)) (functionsIn words) (entering (roomOf m) allowance words) (suc (g .frame)) actions at
+    (returning (memoryRoom m) allowance words g m
+    (started (lent (memoryRoom m)) (functionsIn words) (entering (memoryRoom m) allowance words) (suc (g .frame))
+    actions at
     (storedValues (unpackStores stored (drop stores words)) field at) (stacksOf g m) (ledgerOf allowance g m)))
     (measureBelow (length words) allowance g m + suc (suc (length words)))
     g m next n

@@ -7,12 +7,13 @@ ghost use Rattle.meaning.specs.Choice.{Bytes};
 ghost use Rattle.meaning.specs.Matching.{storedCell, storedValues};
 ghost use Rattle.meaning.specs.Machine.{isDeclared};
 ghost use Rattle.meaning.specs.Instructions.{call as calling};
-ghost use Rattle.meaning.specs.Packing.{storeOf, unpackStores};
+ghost use Rattle.meaning.specs.Packing.{storeOf, unpackStores, maxStored};
 ghost use Rattle.byte_classes.specs.Tests.{Answers};
 ghost use Rattle.run_sites.specs.Sites.{cellMeant};
 ghost use Rattle.run_applications.specs.Storing.{Stores};
 ghost use Rattle.run_decoding.specs.Decoded.{callMeant};
 ghost use Rattle.run_actions.specs.States.{memory, SelectionWithin, FrameWithin, Paired, crowdedAt, CountsWithin};
+ghost use Rattle.run_actions.specs.States.{valuesFor};
 ghost use Rattle.run_applications.specs.Waiting.{countIn, functionsIn, leftBy, recoveredBy};
 use code_numbers::FIRST;
 use code_numbers::OPERAND;
@@ -65,9 +66,9 @@ fn store_values(
     values: &mut [u8],
     frame: usize,
 ) -> Stored
-    requires { ⌜ 16 * frame + count ≤ length (now values) ⌝ }
+    requires { ⌜ valuesFor frame + count ≤ length (now values) ⌝ }
     ensures stores { λ r. ⌜ (let asked = unpackStores count (drop (stores .0) (now (code .entry))) in
-        Stores (16 * frame) count (stores .0 + count) (storedValues asked (now (field .entry)) place)
+        Stores (valuesFor frame) count (stores .0 + count) (storedValues asked (now (field .entry)) place)
         (now (values .entry)) (now (values .exit)) r) ⌝ }
 {
     let base = FRAME_VALUES * frame;
@@ -117,7 +118,7 @@ fn start_sentence(
     requires { ⌜ SelectionWithin (g .p .0) (g .q .0) (now input) ⌝ }
     requires { ⌜ FrameWithin (g .frame) (now frames) ⌝ }
     requires { ⌜ Paired (now frames) (now values) ⌝ }
-    requires { ⌜ stored ≤ 16 ⌝ }
+    requires { ⌜ stored ≤ maxStored ⌝ }
     ensures simulates { λ r. ⌜ ((allowance : ℕ) (output «record» : Bytes) →
         let m = memory (now (input .entry)) output «record» (now (frames .entry)) (now (values .entry)) in
         let n = memory (now (input .entry)) output «record» (now (frames .exit)) (now (values .exit)) in

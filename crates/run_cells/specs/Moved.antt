@@ -23,16 +23,16 @@ pub record MovedSoFar (before : Bytes) (p : ℕ) (out : Bytes) (first r k : ℕ)
 
 -- FEW BYTES, WITHOUT A LOOP
 
--- fewer than `few` bytes are left to move
-pub record FewToMove (few : ℕ) (input : Bytes) (p : ℕ) (out : Bytes) (first r : ℕ) : Type 0 where
+-- fewer than `bound` bytes are left to move
+pub record FewToMove (bound : ℕ) (input : Bytes) (p : ℕ) (out : Bytes) (first r : ℕ) : Type 0 where
   pub order : first ≤ r
   pub there : r ≤ length out
   pub room : r - first ≤ p
   pub inside : p ≤ length input
-  pub left : r < first + few
+  pub left : r < first + bound
 
--- n bytes are moved, and then fewer than `few` are left
-pub record MovedFew (few : ℕ) (before : Bytes) (p : ℕ) (out : Bytes) (first r n : ℕ) (now : Bytes) : Type 0 where
+-- n bytes are moved, and then fewer than `bound` are left
+pub record MovedFew (bound : ℕ) (before : Bytes) (p : ℕ) (out : Bytes) (first r n : ℕ) (now : Bytes) : Type 0 where
   pub cells : now ≡ moved n before p out r
   pub within : first + n ≤ r
-  pub left : r < first + n + few
+  pub left : r < first + n + bound

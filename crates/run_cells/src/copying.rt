@@ -3,20 +3,25 @@ ghost use mathlib.Core.Path.{_≡_};
 ghost use Prim.Native.Nat.{_+_, _≤_, _<_};
 ghost use lib.ListN.{length};
 ghost use lib.Seq.{paste};
-ghost use Rattle.run_cells.specs.Copied.{FewToCopy, CopiedFew};
+ghost use Rattle.run_cells.specs.Copied.{few, half, quarter, FewToCopy, CopiedFew};
 use crate::places::InCell;
 use crate::places::OutCell;
 use crate::places::RecordByte;
 
-// So few bytes are copied and moved without a loop, which for them would cost more than the copying.
+// Fewer bytes than these are copied and moved without a loop, which for them would cost more than the copying: half as
+// many first, where so many are left, then a quarter, then one.
 pub const FEW: usize = 8;
+
+pub const HALF: usize = FEW / 2;
+
+pub const QUARTER: usize = HALF / 2;
 
 // Four bytes more, where so many are left; how many are copied. Then two, and one.
 fn copy_four(to: &mut [u8], at: usize, from: &[u8], i: usize) -> usize
-    requires { ⌜ FewToCopy 8 (now to) at (now from) i ⌝ }
-    ensures { λ n. ⌜ CopiedFew 4 (now (to .entry)) at (now (from .entry)) i n (now (to .exit)) ⌝ }
+    requires { ⌜ FewToCopy few (now to) at (now from) i ⌝ }
+    ensures { λ n. ⌜ CopiedFew half (now (to .entry)) at (now (from .entry)) i n (now (to .exit)) ⌝ }
 {
-    if from.len() - i < 4 {
+    if from.len() - i < HALF {
         return 0;
     }
     let j = i + 1;
@@ -26,24 +31,24 @@ fn copy_four(to: &mut [u8], at: usize, from: &[u8], i: usize) -> usize
     to[at + j] = from[j];
     to[at + k] = from[k];
     to[at + l] = from[l];
-    4
+    HALF
 }
 
 fn copy_two(to: &mut [u8], at: usize, from: &[u8], i: usize) -> usize
-    requires { ⌜ FewToCopy 4 (now to) at (now from) i ⌝ }
-    ensures { λ n. ⌜ CopiedFew 2 (now (to .entry)) at (now (from .entry)) i n (now (to .exit)) ⌝ }
+    requires { ⌜ FewToCopy half (now to) at (now from) i ⌝ }
+    ensures { λ n. ⌜ CopiedFew quarter (now (to .entry)) at (now (from .entry)) i n (now (to .exit)) ⌝ }
 {
-    if from.len() - i < 2 {
+    if from.len() - i < QUARTER {
         return 0;
     }
     let j = i + 1;
     to[at + i] = from[i];
     to[at + j] = from[j];
-    2
+    QUARTER
 }
 
 fn copy_one(to: &mut [u8], at: usize, from: &[u8], i: usize) -> usize
-    requires { ⌜ FewToCopy 2 (now to) at (now from) i ⌝ }
+    requires { ⌜ FewToCopy quarter (now to) at (now from) i ⌝ }
     ensures { λ n. ⌜ CopiedFew 1 (now (to .entry)) at (now (from .entry)) i n (now (to .exit)) ⌝ }
 {
     if from.len() - i < 1 {
@@ -53,10 +58,10 @@ fn copy_one(to: &mut [u8], at: usize, from: &[u8], i: usize) -> usize
     1
 }
 
-// Fewer than eight bytes.
+// Fewer than FEW bytes.
 fn copy_few(to: &mut [u8], at: usize, from: &[u8])
     requires { ⌜ at + length (now from) ≤ length (now to) ⌝ }
-    requires { ⌜ length (now from) < 8 ⌝ }
+    requires { ⌜ length (now from) < few ⌝ }
     ensures { λ _. ⌜ now (to .exit) ≡
         paste (now (to .entry)) at (now (from .entry)) (length (now (from .entry))) ⌝ }
 {

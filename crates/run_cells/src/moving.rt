@@ -4,7 +4,10 @@ ghost use mathlib.Core.Path.{_≡_};
 ghost use lib.ListN.{length};
 ghost use Rattle.meaning.specs.Choice.{Bytes};
 ghost use Rattle.run_cells.specs.Moved.{moved, FewToMove, MovedFew};
+ghost use Rattle.run_cells.specs.Copied.{few, half, quarter};
 use crate::copying::FEW;
+use crate::copying::HALF;
+use crate::copying::QUARTER;
 use crate::places::InCell;
 use crate::places::OutCell;
 use crate::places::bytes_between;
@@ -29,35 +32,35 @@ fn move_before(input: &mut [u8], p: InCell, output: &[u8], r: OutCell, back: usi
 
 // Four bytes of out moved to just below p, where so many are left; how many are moved. Then two, and one.
 fn move_four(input: &mut [u8], p: InCell, output: &[u8], first: OutCell, r: OutCell) -> usize
-    requires { ⌜ FewToMove 8 (now input) (p .0) (now output) (first .0) (r .0) ⌝ }
-    ensures { λ n. ⌜ MovedFew 4 (now (input .entry)) (p .0) (now (output .entry)) (first .0) (r .0) n
+    requires { ⌜ FewToMove few (now input) (p .0) (now output) (first .0) (r .0) ⌝ }
+    ensures { λ n. ⌜ MovedFew half (now (input .entry)) (p .0) (now (output .entry)) (first .0) (r .0) n
         (now (input .exit)) ⌝ }
 {
-    if bytes_between(first, r) < 4 {
+    if bytes_between(first, r) < HALF {
         return 0;
     }
     move_before(input, p, output, r, 1);
     move_before(input, p, output, r, 2);
     move_before(input, p, output, r, 3);
     move_before(input, p, output, r, 4);
-    4
+    HALF
 }
 
 fn move_two(input: &mut [u8], p: InCell, output: &[u8], first: OutCell, r: OutCell) -> usize
-    requires { ⌜ FewToMove 4 (now input) (p .0) (now output) (first .0) (r .0) ⌝ }
-    ensures { λ n. ⌜ MovedFew 2 (now (input .entry)) (p .0) (now (output .entry)) (first .0) (r .0) n
+    requires { ⌜ FewToMove half (now input) (p .0) (now output) (first .0) (r .0) ⌝ }
+    ensures { λ n. ⌜ MovedFew quarter (now (input .entry)) (p .0) (now (output .entry)) (first .0) (r .0) n
         (now (input .exit)) ⌝ }
 {
-    if bytes_between(first, r) < 2 {
+    if bytes_between(first, r) < QUARTER {
         return 0;
     }
     move_before(input, p, output, r, 1);
     move_before(input, p, output, r, 2);
-    2
+    QUARTER
 }
 
 fn move_one(input: &mut [u8], p: InCell, output: &[u8], first: OutCell, r: OutCell) -> usize
-    requires { ⌜ FewToMove 2 (now input) (p .0) (now output) (first .0) (r .0) ⌝ }
+    requires { ⌜ FewToMove quarter (now input) (p .0) (now output) (first .0) (r .0) ⌝ }
     ensures { λ n. ⌜ MovedFew 1 (now (input .entry)) (p .0) (now (output .entry)) (first .0) (r .0) n
         (now (input .exit)) ⌝ }
 {
@@ -68,9 +71,9 @@ fn move_one(input: &mut [u8], p: InCell, output: &[u8], first: OutCell, r: OutCe
     1
 }
 
-// Fewer than eight bytes of out moved so; where the first of them stands then.
+// Fewer than FEW bytes of out moved so; where the first of them stands then.
 fn move_few(input: &mut [u8], p: InCell, output: &[u8], first: OutCell, r: OutCell) -> InCell
-    requires { ⌜ FewToMove 8 (now input) (p .0) (now output) (first .0) (r .0) ⌝ }
+    requires { ⌜ FewToMove few (now input) (p .0) (now output) (first .0) (r .0) ⌝ }
     ensures { λ to. ⌜ to ≡ record { 0 = p .0 - (r .0 - first .0) } ⌝ }
     ensures { λ _. ⌜ now (input .exit) ≡
         moved (r .0 - first .0) (now (input .entry)) (p .0) (now (output .entry)) (r .0) ⌝ }

@@ -4,18 +4,12 @@ ghost use Prim.Native.Nat.{_+_, _-_, _≤_, _<_, _^_, min, max};
 ghost use mathlib.Core.Path.{_≡_};
 ghost use lib.ListN.{length, take, drop, set};
 
-// A place in the code is matching's CodePlace.
+// A place in the code is `run_code_places`'s CodePlace.
 pub struct InCell(pub usize);
 
 pub struct OutCell(pub usize);
 
 pub struct RecordByte(pub usize);
-
-pub fn less(a: usize, b: usize) -> usize
-    ensures { λ r. ⌜ r ≡ a - b ⌝ }
-{
-    if b < a { a - b } else { 0 }
-}
 
 // IN
 

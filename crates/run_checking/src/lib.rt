@@ -8,7 +8,7 @@ ghost use Rattle.meaning.specs.Instructions.{look as looking};
 ghost use Rattle.meaning.specs.Classes.{sameTruth};
 ghost use Rattle.meaning.specs.Matching.{checked, checkAll};
 ghost use Rattle.meaning.specs.Matching.{check as tested};
-ghost use Rattle.meaning.specs.Packing.{firstIn, secondIn, thirdIn, siteOf, classOf};
+ghost use Rattle.meaning.specs.Packing.{firstIn, secondIn, thirdIn, siteOf, classOf, registers};
 ghost use Rattle.meaning.specs.Packing.{testOf, lookOf, compareOf, predicateFor, unpackTests};
 ghost use Rattle.byte_classes.specs.Tests.{Answers};
 ghost use Rattle.run_checking.specs.Checks.{checkedMeant, lastTest};
@@ -77,8 +77,8 @@ fn look_ahead(field: &[u8], word: u32) -> Checked
 // The bytes at two sites are equal.
 fn compare(field: &[u8], place: usize, word: u32) -> Checked
     ensures { λ r. ⌜ checkedMeant r ≡
-        tested (compareOf (siteOf (firstIn word % 4) (secondIn word)) (siteOf (firstIn word / 4) (thirdIn word)))
-        (now (field .entry)) place ⌝ }
+        tested (compareOf (siteOf (firstIn word % registers) (secondIn word))
+        (siteOf (firstIn word / registers) (thirdIn word))) (now (field .entry)) place ⌝ }
 {
     let sites = word / FIRST % OPERAND;
     let Cell::Byte(b) = cell_at(field, place, sites % REGISTERS, word / SECOND % OPERAND) else {
@@ -100,8 +100,8 @@ fn as_expected(expected: bool, within: bool) -> bool
 fn predicate(bits: &[u8; 256], field: &[u8], place: usize, word: u32) -> Checked
     requires { ⌜ Answers (now bits) ⌝ }
     ensures { λ r. ⌜ checkedMeant r ≡
-        tested (predicateFor (siteOf (firstIn word % 4) (secondIn word)) (classOf (thirdIn word))
-        (eqb (firstIn word / 4) 1)) (now (field .entry)) place ⌝ }
+        tested (predicateFor (siteOf (firstIn word % registers) (secondIn word)) (classOf (thirdIn word))
+        (eqb (firstIn word / registers) 1)) (now (field .entry)) place ⌝ }
 {
     let site = word / FIRST % OPERAND;
     let class = word / THIRD % OPERAND;

@@ -6,7 +6,7 @@ ghost use Rattle.run_actions.specs.declared.registers.Next.the-variants.{Onward
 ghost use Rattle.byte_classes.specs.Tests.{Answers};
 ghost use Rattle.meaning.specs.Outcome.{uncounted};
 ghost use Rattle.meaning.specs.Runs.{runLent};
-ghost use Rattle.meaning.specs.Leaving.{roomOf as roomOfCells, afterRun};
+ghost use Rattle.meaning.specs.Leaving.{roomOf, afterRun};
 ghost use Rattle.run_actions.specs.States.{firstFrames, wordsFor, valuesFor, countsIn, memory};
 ghost use Rattle.run_applications.specs.Waiting.{countIn, soundIn, functionsIn};
 ghost use Rattle.run_applications.specs.Simulation.{Invariant, NextInvariant, registersIn};
@@ -303,7 +303,7 @@ pub fn run_lent(
     ensures leaves { λ r. ⌜ (
         let before = cells (now (input .entry)) (now (output .entry)) (now («record» .entry)) in
         let functions = functionsIn (now (code .entry)) in
-        let outcome = runLent (roomOfCells before) functions start (now (text .entry)) allowance in
+        let outcome = runLent (roomOf before) functions start (now (text .entry)) allowance in
         Leaves r (countsIn (now (frames .exit))) (cells (now (input .exit)) (now (output .exit)) (now («record» .exit)))
         (afterRun outcome before)) ⌝ }
 {

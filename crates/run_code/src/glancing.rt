@@ -6,7 +6,7 @@ ghost use Rattle.meaning.specs.Outcome.{maxCounted, uncounted};
 ghost use Rattle.meaning.specs.Matching.{chooseFrom};
 ghost use Rattle.meaning.specs.Runs.{runLent};
 ghost use Rattle.meaning.specs.Packing.{unpackSentences};
-ghost use Rattle.meaning.specs.Leaving.{roomOf as roomOfCells, afterRun};
+ghost use Rattle.meaning.specs.Leaving.{roomOf, afterRun};
 ghost use Rattle.run_actions.specs.States.{firstFrames, wordsFor, valuesFor, countsIn, countedIn, CountsWithin};
 ghost use Rattle.run_applications.specs.Waiting.{countIn, functionsIn};
 ghost use Rattle.run_code.specs.Leaving.{cells, Leaves, clearedFrom, endedWith, Foreseen};
@@ -87,7 +87,7 @@ pub fn run_foreseen(
     requires { ⌜ countsIn (now frames) ≡ uncounted ⌝ }
     ensures { λ r. ⌜ Leaves r (countsIn (now (frames .exit)))
         (cells (now (input .exit)) (now (output .exit)) (now («record» .exit)))
-        (afterRun (runLent (roomOfCells (cells (now (input .entry)) (now (output .entry)) (now («record» .entry))))
+        (afterRun (runLent (roomOf (cells (now (input .entry)) (now (output .entry)) (now («record» .entry))))
         (functionsIn (now (code .entry))) start (now (text .entry)) allowance)
         (cells (now (input .entry)) (now (output .entry)) (now («record» .entry)))) ⌝ }
 {

@@ -16,6 +16,7 @@ use Rattle.meaning.specs.Packing.{emissionOf, unpackActions}
 use Rattle.meaning.specs.Packing.{beginSeqNumber, callNumber, computeNumber, emissionNumber, goNumber, minusNumber}
 use Rattle.meaning.specs.Packing.{outCNumber, outNumber, outVNumber, plusNumber, selectNumber, tailCallNumber}
 use Rattle.meaning.specs.Packing.{useSeqNumber}
+use Rattle.code_numbers.specs.Numbers.{first}
 use Rattle.run_code_places.specs.declared.CodePlace.{CodePlace}
 use Rattle.run_decoding.specs.declared.Found.{Found}
 use Rattle.run_decoding.specs.declared.Found.the-variants.{Word, Other}
@@ -27,7 +28,7 @@ use Rattle.run_decoding.specs.declared.Instruction.the-variants.{Go, Sel
 use Rattle.run_decoding.specs.declared.Instruction.the-variants.{Call as Calls, Emit, Compute, End, Unknown}
 
 abbrev pub callIn : Bool → ℕ → Call
-callIn tail w = record { tail = tail; function = w / 256 }
+callIn tail w = record { tail = tail; function = w / first }
 
 abbrev pub computationIn : ℕ → Instruction
 computationIn n = pick (eqb n plusNumber) (Compute false) (pick (eqb n minusNumber) (Compute true) Unknown)

@@ -7,6 +7,7 @@ use lib.Dec.{leb, eqb}
 use lib.ListN.{length, getD, drop}
 use Rattle.meaning.specs.Choice.{Bytes, pick, both, startsWith}
 use Rattle.meaning.specs.Matching.{Found, foundAt, foundNone, foundWrong, checked, search}
+use Rattle.byte_classes.specs.Tests.{byteCount}
 use Rattle.run_finding.specs.declared.Occurrence.{Occurrence}
 use Rattle.run_finding.specs.declared.Occurrence.the-variants.{At, Nowhere, Unsuited}
 
@@ -19,10 +20,14 @@ occurrenceOf (foundAt at) = At at
 occurrenceOf foundNone = Nowhere
 occurrenceOf foundWrong = Unsuited
 
--- the string has 1 to 64 bytes, and at each of the places the text has as many
+-- how many bits a word has
+abbrev pub wordBits : ℕ
+wordBits = 64
+
+-- the string is not empty and has a bit for each byte, and at each of the places the text has as many bytes
 abbrev pub suited : ℕ → ℕ → ℕ → ℕ → Bool
 suited size whole places first =
-    both (leb 1 size) (both (leb size 64) (both (leb size whole) (leb (first + places) (whole - size + 1))))
+    both (leb 1 size) (both (leb size wordBits) (both (leb size whole) (leb (first + places) (whole - size + 1))))
 
 abbrev pub occurrence : Bytes → Bytes → ℕ → ℕ → Occurrence
 occurrence string text places first =
@@ -46,4 +51,4 @@ occurrenceBits (x ∷ xs) c = occurrenceBits xs c * 2 + bit (eqb x c)
 
 -- a table that has for each byte its places in the string, the string's last place being bit 0
 pub record Marks (string marks : List ℕ) : Type 0 where
-  pub each : (c : ℕ) → c < 256 → getD marks c 0 ≡ occurrenceBits (backwards string (length string)) c
+  pub each : (c : ℕ) → c < byteCount → getD marks c 0 ≡ occurrenceBits (backwards string (length string)) c

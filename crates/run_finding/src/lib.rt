@@ -2,7 +2,13 @@
 ghost use Prim.Native.Nat.{ℕ, _+_, _≤_, _<_, _-_, _^_};
 ghost use mathlib.Core.Path.{_≡_};
 ghost use lib.ListN.{length, getD, replicate};
+ghost use Rattle.byte_classes.specs.Tests.{byteCount};
 ghost use Rattle.run_finding.specs.Occurrences.{occurrence, suited, occurrenceOf, leftmostOccurrence, Marks};
+ghost use Rattle.run_finding.specs.Occurrences.{wordBits};
+use byte_classes::BYTE_COUNT;
+
+// How many bits a word has.
+const WORD_BITS: usize = 64;
 
 // Where a string stands; or that it isn't looked for, since it is empty or longer than a word has bits, or the places
 // run past the text.
@@ -14,23 +20,23 @@ pub enum Occurrence {
 
 // A power of two in a word.
 fn power(exponent: usize) -> u64
-    requires { ⌜ exponent < 64 ⌝ }
+    requires { ⌜ exponent < wordBits ⌝ }
     ensures { λ r. ⌜ r ≡ 2 ^ exponent ⌝ }
 {
     1u64 << exponent
 }
 
-fn no_marks() -> [u64; 256]
-    ensures { λ r. ⌜ r ≡ replicate 256 0 ⌝ }
+fn no_marks() -> [u64; BYTE_COUNT]
+    ensures { λ r. ⌜ r ≡ replicate byteCount 0 ⌝ }
 {
-    [0u64; 256]
+    [0u64; BYTE_COUNT]
 }
 
 // For each byte the places of the string at which it stands, as bits: the last place is bit 0.
 fn mark(string: &[u8], marks: &mut [u64])
     requires { ⌜ 1 ≤ length (now string) ⌝ }
-    requires { ⌜ length (now string) ≤ 64 ⌝ }
-    requires { ⌜ now marks ≡ replicate 256 0 ⌝ }
+    requires { ⌜ length (now string) ≤ wordBits ⌝ }
+    requires { ⌜ now marks ≡ replicate byteCount 0 ⌝ }
     ensures { λ r. ⌜ Marks (now (string .entry)) (now (marks .exit)) ⌝ }
 {
     let mut unit = power(string.len() - 1);
@@ -45,10 +51,16 @@ fn mark(string: &[u8], marks: &mut [u64])
 
 // Each byte of the text takes the bits of all beginnings one place on, where the string has that byte there.
 // Bit 0 is the whole string.
-fn pass(marks: &[u64; 256], string: &[u8], text: &[u8], first: usize, places: usize) -> Occurrence
+fn pass(
+    marks: &[u64; BYTE_COUNT],
+    string: &[u8],
+    text: &[u8],
+    first: usize,
+    places: usize,
+) -> Occurrence
     requires { ⌜ Marks (now string) (now marks) ⌝ }
     requires { ⌜ 1 ≤ length (now string) ⌝ }
-    requires { ⌜ length (now string) ≤ 64 ⌝ }
+    requires { ⌜ length (now string) ≤ wordBits ⌝ }
     requires { ⌜ first + places + length (now string) ≤ length (now text) + 1 ⌝ }
     requires { ⌜ 1 ≤ places ⌝ }
     ensures { λ r. ⌜ r ≡ occurrenceOf (leftmostOccurrence (now (string .entry)) (now (text .entry)) places first) ⌝ }
@@ -77,7 +89,7 @@ pub fn find(string: &[u8], text: &[u8], first: usize, places: usize) -> Occurren
     if most == 0 {
         return Occurrence::Unsuited;
     }
-    if 64 < most {
+    if WORD_BITS < most {
         return Occurrence::Unsuited;
     }
     if text.len() < most {

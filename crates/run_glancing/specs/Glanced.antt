@@ -6,7 +6,8 @@ use mathlib.Core.List.{[], _∷_}
 use lib.ListN.{length, getD}
 use Rattle.meaning.specs.Instructions.{whole, go}
 use Rattle.meaning.specs.Matching.{Checked, failed, wrong, Choice, chosen, chosenNone}
-use Rattle.meaning.specs.Packing.{Words}
+use Rattle.meaning.specs.Packing.{Words, codeWord, countsWord, endsNumber, goNumber, wholeNumber, actionsEnd}
+use Rattle.code_numbers.specs.Numbers.{sentenceHead}
 use Rattle.run_glancing.specs.declared.Seen.{Seen}
 use Rattle.run_glancing.specs.declared.Seen.the-variants.{Nothing, Dropped, Perhaps}
 use Rattle.run_glancing.specs.declared.Glimpse.{Glimpse}
@@ -25,11 +26,11 @@ Where false claim = Unit {0}
 
 -- the words of a sentence `e1 =` from a place on
 pub record Drops (words : Words) (at : ℕ) : Type 0 where
-  pub there : at + 4 ≤ length words
-  pub lengths : getD words at 0 ≡ 17
-  pub counts : getD words (at + 1) 0 ≡ 131072
-  pub passes : getD words (at + 2) 0 ≡ 261
-  pub ends : getD words (at + 3) 0 ≡ 15
+  pub there : at + (sentenceHead + 2) ≤ length words
+  pub lengths : getD words at 0 ≡ codeWord endsNumber 0 0 0
+  pub counts : getD words (at + 1) 0 ≡ countsWord 0 0 2
+  pub passes : getD words (at + sentenceHead) 0 ≡ codeWord goNumber wholeNumber 0 0
+  pub ends : getD words (at + (sentenceHead + 1)) 0 ≡ actionsEnd
 
 -- the sentence that is chosen stores nothing, passes over its field and ends
 pub record Drop (choice : Choice) : Type 0 where

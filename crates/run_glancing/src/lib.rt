@@ -6,6 +6,7 @@ ghost use lib.ListN.{length, drop};
 ghost use Rattle.meaning.specs.Choice.{nth};
 ghost use Rattle.meaning.specs.Matching.{Checked, failed, foundNone, asked, checked, check, checkAll, chooseFrom};
 ghost use Rattle.meaning.specs.Packing.{metricIn, testOf, unpackTests, unpackSentences};
+ghost use Rattle.code_numbers.specs.Numbers.{sentenceHead};
 ghost use Rattle.run_matching.specs.Matched.{tried};
 ghost use Rattle.run_glancing.specs.Glanced.{Told, Where, Drops, Glances};
 use code_numbers::ACTIONS_END;
@@ -40,6 +41,13 @@ const ANY_FIELD: u32 = ENDS;
 const TWO_ACTIONS: u32 = SECOND * 2;
 
 const GO_WHOLE: u32 = GO + FIRST * WHOLE;
+
+// Where the last two of them stand, and how many they are.
+const GO_PLACE: usize = SENTENCE_HEAD;
+
+const END_PLACE: usize = GO_PLACE + 1;
+
+const DROPPING_WORDS: usize = END_PLACE + 1;
 
 // No sentence fits, and no function recovers; the sentence that is chosen passes over its field and ends; or more would
 // have to be looked at.
@@ -123,7 +131,8 @@ fn looks_fail(code: &[u32], tests: CodePlace, count: usize, field: &[u8], last: 
 fn is_out(code: &[u32], at: CodePlace, word: u32, counts: u32, field: &[u8]) -> bool
     requires { ⌜ at .0 < length (now code) ⌝ }
     ensures { λ r. ⌜ Where r
-        (tried (metricIn word) counts (drop (at .0 + 2) (now (code .entry))) (now (field .entry)) ≡ foundNone) ⌝ }
+        (tried (metricIn word) counts (drop (at .0 + sentenceHead) (now (code .entry))) (now (field .entry))
+        ≡ foundNone) ⌝ }
 {
     let Places::From { first, count } = places_of(word, field.len()) else {
         return false;
@@ -145,7 +154,7 @@ fn drops(code: &[u32], at: CodePlace) -> bool
     ensures { λ r. ⌜ Where r (Drops (now (code .entry)) (at .0)) ⌝ }
 {
     let start = at.0;
-    if code.len() - start < 4 {
+    if code.len() - start < DROPPING_WORDS {
         return false;
     }
     if code[start] != ANY_FIELD {
@@ -154,10 +163,10 @@ fn drops(code: &[u32], at: CodePlace) -> bool
     if code[start + 1] != TWO_ACTIONS {
         return false;
     }
-    if code[start + 2] != GO_WHOLE {
+    if code[start + GO_PLACE] != GO_WHOLE {
         return false;
     }
-    if code[start + 3] != ACTIONS_END {
+    if code[start + END_PLACE] != ACTIONS_END {
         return false;
     }
     true

@@ -5,6 +5,7 @@ ghost use lib.ListN.{length, drop};
 ghost use Rattle.meaning.specs.Choice.{pick};
 ghost use Rattle.meaning.specs.Matching.{chooseFrom};
 ghost use Rattle.meaning.specs.Packing.{metricIn, unpackSentences};
+ghost use Rattle.code_numbers.specs.Numbers.{sentenceHead};
 ghost use Rattle.byte_classes.specs.Tests.{Answers};
 ghost use Rattle.run_searching.specs.Searches.{foundMeant};
 ghost use Rattle.run_matching.specs.Matched.{placesFor, tried, Chooses};
@@ -93,7 +94,7 @@ fn try_sentence(
     requires { ⌜ Answers (now bits) ⌝ }
     requires { ⌜ at .0 < length (now code) ⌝ }
     ensures { λ r. ⌜ foundMeant r ≡
-        tried (metricIn word) counts (drop (at .0 + 2) (now (code .entry))) (now (field .entry)) ⌝ }
+        tried (metricIn word) counts (drop (at .0 + sentenceHead) (now (code .entry))) (now (field .entry)) ⌝ }
 {
     let Places::From { first, count } = places_of(word, field.len()) else {
         return Found::Wrong;

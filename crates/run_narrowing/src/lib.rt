@@ -1,12 +1,15 @@
 // What one test says at a range of places, before any of them is searched.
-ghost use Prim.Native.Nat.{_+_, _-_, _≤_, _<_, _%_, _/_, _^_, min};
+ghost use Prim.Native.Nat.{_+_, _-_, _≤_, _<_, _%_, _/_, _^_};
 ghost use mathlib.Core.Path.{_≡_};
 ghost use lib.ListN.{length, getD};
 ghost use Rattle.meaning.specs.Choice.{pick};
 ghost use Rattle.meaning.specs.Matching.{check as tested};
 ghost use Rattle.meaning.specs.Packing.{numberIn, firstIn, testOf, fromPlaceNumber, predicatePartNumber, registers};
 ghost use Rattle.byte_classes.specs.Tests.{Answers};
+ghost use Rattle.run_searching.specs.Searches.{PlacesWithin};
 ghost use Rattle.run_narrowing.specs.Narrowed.{asksPlace, Sifts};
+use arithmetic::less;
+use arithmetic::lesser;
 use code_numbers::BLANK;
 use code_numbers::FIRST;
 use code_numbers::FROM_PLACE;
@@ -17,7 +20,6 @@ use code_numbers::PREDICATE_PART;
 use code_numbers::REGISTERS;
 use code_numbers::SECOND;
 use code_numbers::THIRD;
-use run_cells::places::less;
 use run_class_runs::leading;
 use run_class_runs::trailing;
 use run_code_places::CodePlace;
@@ -46,12 +48,6 @@ fn asks_place(word: u32) -> bool
     registers / REGISTERS % REGISTERS == FROM_PLACE
 }
 
-fn least(a: usize, b: usize) -> usize
-    ensures { λ r. ⌜ r ≡ min a b ⌝ }
-{
-    if a < b { a } else { b }
-}
-
 // The places before a turn, or those from it on.
 fn part_at(first: usize, places: usize, turn: usize, early: bool) -> Sifted
     requires { ⌜ first + places < 2 ^ 64 ⌝ }
@@ -74,7 +70,7 @@ fn part_at(first: usize, places: usize, turn: usize, early: bool) -> Sifted
 // A condition on the first part: up to a turn all its bytes are in the class, and after it they aren't.
 fn sift_first(bits: &[u8; 256], field: &[u8], word: u32, first: usize, places: usize) -> Sifted
     requires { ⌜ Answers (now bits) ⌝ }
-    requires { ⌜ first + places ≤ length (now field) + 256 ⌝ }
+    requires { ⌜ PlacesWithin first places (length (now field)) ⌝ }
     requires { ⌜ 0 < places ⌝ }
     requires { ⌜ numberIn word ≡ predicatePartNumber ⌝ }
     requires { ⌜ firstIn word / registers % registers ≡ fromPlaceNumber ⌝ }
@@ -109,7 +105,7 @@ fn sift_first(bits: &[u8; 256], field: &[u8], word: u32, first: usize, places: u
     part_at(
         first,
         places,
-        least(passing, places),
+        lesser(passing, places),
         operand / PART_TRUTH % 2 == 1,
     )
 }
@@ -117,7 +113,7 @@ fn sift_first(bits: &[u8; 256], field: &[u8], word: u32, first: usize, places: u
 // A condition on the second part: from a turn on all its bytes are in the class, and before it they aren't.
 fn sift_second(bits: &[u8; 256], field: &[u8], word: u32, first: usize, places: usize) -> Sifted
     requires { ⌜ Answers (now bits) ⌝ }
-    requires { ⌜ first + places ≤ length (now field) + 256 ⌝ }
+    requires { ⌜ PlacesWithin first places (length (now field)) ⌝ }
     requires { ⌜ 0 < places ⌝ }
     requires { ⌜ numberIn word ≡ predicatePartNumber ⌝ }
     requires { ⌜ firstIn word % registers ≡ fromPlaceNumber ⌝ }
@@ -147,7 +143,7 @@ fn sift_second(bits: &[u8; 256], field: &[u8], word: u32, first: usize, places: 
     part_at(
         first,
         places,
-        least(turn, places),
+        lesser(turn, places),
         operand / PART_TRUTH % 2 != 1,
     )
 }
@@ -163,7 +159,7 @@ pub fn sift(
     places: usize,
 ) -> Sifted
     requires { ⌜ Answers (now bits) ⌝ }
-    requires { ⌜ first + places ≤ length (now field) + 256 ⌝ }
+    requires { ⌜ PlacesWithin first places (length (now field)) ⌝ }
     requires { ⌜ 0 < places ⌝ }
     requires { ⌜ at < length (now code) ⌝ }
     ensures { λ r. ⌜ Sifts r (tested (testOf (getD (now (code .entry)) at 0)) (now (field .entry))) first places ⌝ }

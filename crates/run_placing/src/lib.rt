@@ -6,7 +6,7 @@ ghost use Rattle.meaning.specs.Matching.{checkAll};
 ghost use Rattle.meaning.specs.Matching.{search as searched};
 ghost use Rattle.meaning.specs.Packing.{unpackTests};
 ghost use Rattle.byte_classes.specs.Tests.{Answers};
-ghost use Rattle.run_searching.specs.Searches.{foundMeant};
+ghost use Rattle.run_searching.specs.Searches.{foundMeant, PlacesWithin};
 ghost use Rattle.run_placing.specs.Placed.{Settles, HeadsSay};
 use code_numbers::LOOK_FROM_START;
 use code_numbers::OPERAND;
@@ -55,7 +55,7 @@ fn settle(
     kept: &mut [u32],
 ) -> Settled
     requires { ⌜ Answers (now bits) ⌝ }
-    requires { ⌜ first + places ≤ length (now field) + 256 ⌝ }
+    requires { ⌜ PlacesWithin first places (length (now field)) ⌝ }
     ensures { λ r. ⌜ Settles r (now (kept .exit)) (now (field .entry))
         (checkAll (unpackTests count (drop (tests .0) (now (code .entry)))) (now (field .entry))) places first ⌝ }
 {
@@ -117,7 +117,7 @@ pub fn find_settled(
     places: usize,
 ) -> Found
     requires { ⌜ Answers (now bits) ⌝ }
-    requires { ⌜ first + places ≤ length (now field) + 256 ⌝ }
+    requires { ⌜ PlacesWithin first places (length (now field)) ⌝ }
     ensures { λ r. ⌜ foundMeant r ≡
         searched (checkAll (unpackTests count (drop (tests .0) (now (code .entry)))) (now (field .entry)))
         places first ⌝ }
@@ -189,7 +189,7 @@ pub fn find_place(
     places: usize,
 ) -> Found
     requires { ⌜ Answers (now bits) ⌝ }
-    requires { ⌜ first + places ≤ length (now field) + 256 ⌝ }
+    requires { ⌜ PlacesWithin first places (length (now field)) ⌝ }
     ensures { λ r. ⌜ foundMeant r ≡
         searched (checkAll (unpackTests count (drop (tests .0) (now (code .entry)))) (now (field .entry)))
         places first ⌝ }

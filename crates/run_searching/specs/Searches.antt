@@ -9,6 +9,7 @@ use Rattle.meaning.specs.Instructions.{fromPlace, Test, look}
 use Rattle.meaning.specs.Matching.{foundAt, foundNone, foundWrong}
 use Rattle.meaning.specs.Matching.{Found as Finding}
 use Rattle.meaning.specs.Packing.{Words, codeWord, secondIn, lookNumber, fromPlaceNumber}
+use Rattle.code_numbers.specs.Numbers.{operand}
 use Rattle.run_finding.specs.declared.Occurrence.{Occurrence}
 use Rattle.run_finding.specs.declared.Occurrence.the-variants.{At as Standing, Nowhere as NotThere, Unsuited}
 use Rattle.run_searching.specs.declared.Found.{Found}
@@ -20,6 +21,10 @@ abbrev pub foundMeant : Found → Finding
 foundMeant (At at) = foundAt at
 foundMeant Nowhere = foundNone
 foundMeant Wrong = foundWrong
+
+-- so many places from the first on end no further past a field of a length than an operand can say
+abbrev pub PlacesWithin : ℕ → ℕ → ℕ → Type 0
+PlacesWithin first places whole = first + places ≤ whole + operand
 
 -- ONE LOOK
 
@@ -44,7 +49,7 @@ looks offset (c ∷ cs) = look (fromPlace offset) c ∷ looks (suc offset) cs
 
 pub record Spelled (offset : ℕ) (string : Bytes) (tests : List Test) : Type 0 where
   pub same : tests ≡ looks offset string
-  pub near : offset ≤ 255
+  pub near : offset < operand
 
 abbrev pub Spells : Template → Bytes → List Test → ℕ → Type 0
 Spells (String offset) string tests count = Spelled offset (take count string) tests

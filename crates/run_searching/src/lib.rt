@@ -7,8 +7,9 @@ ghost use Rattle.meaning.specs.Instructions.{look as looking};
 ghost use Rattle.meaning.specs.Matching.{checkAll};
 ghost use Rattle.meaning.specs.Matching.{check as tested, search as searched};
 ghost use Rattle.meaning.specs.Packing.{secondIn, thirdIn, unpackTests};
+ghost use Rattle.code_numbers.specs.Numbers.{operand};
 ghost use Rattle.byte_classes.specs.Tests.{Answers};
-ghost use Rattle.run_searching.specs.Searches.{foundMeant, LooksOnce, Spells, Occurs};
+ghost use Rattle.run_searching.specs.Searches.{foundMeant, PlacesWithin, LooksOnce, Spells, Occurs};
 use code_numbers::LOOK_FROM_PLACE;
 use code_numbers::OPERAND;
 use code_numbers::SECOND;
@@ -49,7 +50,7 @@ pub fn search(
     places: usize,
 ) -> Found
     requires { ⌜ Answers (now bits) ⌝ }
-    requires { ⌜ first + places ≤ length (now field) + 256 ⌝ }
+    requires { ⌜ PlacesWithin first places (length (now field)) ⌝ }
     ensures { λ r. ⌜ foundMeant r ≡
         searched (checkAll (unpackTests count (drop (tests .0) (now (code .entry)))) (now (field .entry)))
         places first ⌝ }
@@ -71,7 +72,7 @@ pub fn search(
 // Whether a Look from the middle template's place is the only test, the commonest that a middle template has, and finds
 // a cell in a whole of a length at each place before one.
 pub fn looks_once(code: &[u32], tests: CodePlace, count: usize, past: usize, whole: usize) -> bool
-    requires { ⌜ past ≤ whole + 256 ⌝ }
+    requires { ⌜ past ≤ whole + operand ⌝ }
     requires { ⌜ whole < 2 ^ 63 ⌝ }
     ensures { λ r. ⌜ LooksOnce r (now (code .entry)) (tests .0) count past whole ⌝ }
 {
@@ -157,7 +158,7 @@ fn find_string(
     first: usize,
     places: usize,
 ) -> Occurrence
-    requires { ⌜ first + places ≤ length (now field) + 256 ⌝ }
+    requires { ⌜ PlacesWithin first places (length (now field)) ⌝ }
     ensures { λ r. ⌜ Occurs r
         (searched (checkAll (unpackTests count (drop (tests .0) (now (code .entry)))) (now (field .entry)))
         places first) ⌝ }
@@ -190,7 +191,7 @@ pub fn find_among(
     places: usize,
 ) -> Found
     requires { ⌜ Answers (now bits) ⌝ }
-    requires { ⌜ first + places ≤ length (now field) + 256 ⌝ }
+    requires { ⌜ PlacesWithin first places (length (now field)) ⌝ }
     ensures { λ r. ⌜ foundMeant r ≡
         searched (checkAll (unpackTests count (drop (tests .0) (now (code .entry)))) (now (field .entry)))
         places first ⌝ }

@@ -13,7 +13,7 @@ use Rattle.run_actions.specs.declared.registers.Next.{Next}
 use Rattle.run_actions.specs.declared.registers.Next.the-variants.{Onward, Done, Stopped, Deeper}
 use Rattle.run_actions.specs.declared.registers.Status.{Status}
 use Rattle.run_actions.specs.declared.registers.Status.the-variants as status
-use Rattle.run_actions.specs.States.{Memory, memory, roomOf}
+use Rattle.run_actions.specs.States.{Memory, memory, memoryRoom}
 use Rattle.run_applications.specs.Waiting.{outcomeFrom, measure}
 use Rattle.run_applications.specs.Simulation.{Invariant, Simulates, SimulatesBelow}
 
@@ -32,11 +32,11 @@ nextOf status.Done g = Done g
 nextOf (status.Stopped ending function) g = Stopped g ending function
 nextOf status.Deeper g = Deeper g
 
-abbrev pub onward : Status → Bool
-onward status.Onward = true
-onward status.Done = false
-onward (status.Stopped ending function) = false
-onward status.Deeper = false
+abbrev pub isOnward : Status → Bool
+isOnward status.Onward = true
+isOnward status.Done = false
+isOnward (status.Stopped ending function) = false
+isOnward status.Deeper = false
 
 -- a run that has ended, or goes on in a larger room
 abbrev pub IsOver : Next → Type 0
@@ -91,13 +91,13 @@ pub record SomeActingInvariant (g : Registers) (input output : Bytes) (frames : 
 -- a turn of the loop: it simulates the run from where it stands, and the measure falls
 abbrev pub SimulatesTurn : Words → ℕ → Registers → Memory → Next → Memory → Type 0
 SimulatesTurn words allowance g m next n =
-    SimulatesBelow words allowance (outcomeFrom (roomOf m) allowance words (Onward g) m)
+    SimulatesBelow words allowance (outcomeFrom (memoryRoom m) allowance words (Onward g) m)
     (measure (length words) allowance (Onward g) m) g m next n
 
 -- its first part, the application that is to begin, if there is one: the measure may stay where actions come next
 pub record SimulatesEntry (words : Words) (allowance : ℕ) (g : Registers) (m : Memory)
     (next : Next) (n : Memory) : Type 0 where
-  pub below : SimulatesBelow words allowance (outcomeFrom (roomOf m) allowance words (Onward g) m)
+  pub below : SimulatesBelow words allowance (outcomeFrom (memoryRoom m) allowance words (Onward g) m)
       (suc (measure (length words) allowance (Onward g) m)) g m next n
   pub again : (Idle next → ⊥) → measure (length words) allowance next n < measure (length words) allowance (Onward g) m
 
@@ -110,7 +110,7 @@ pub data UnchangedOrBelow (size allowance : ℕ) (g : Registers) (m : Memory) (h
 -- instructions that are tried, each where it comes next: the measure falls if one is done
 pub record SimulatesTry (words : Words) (allowance : ℕ) (g : Registers) (m : Memory)
     (h : Registers) (n : Memory) : Type 0 where
-  pub simulates : Simulates words allowance (outcomeFrom (roomOf m) allowance words (Onward g) m) g m (Onward h) n
+  pub simulates : Simulates words allowance (outcomeFrom (memoryRoom m) allowance words (Onward g) m) g m (Onward h) n
   pub idle : h .callee ≡ 0
   pub moved : UnchangedOrBelow (length words) allowance g m h n
 
@@ -126,4 +126,4 @@ abbrev pub SimulatesInstruction : Words → ℕ → Registers → Memory → Nex
 SimulatesInstruction words allowance g m next n =
     (bound : ℕ) → measure (length words) allowance (Onward g) m ≤ bound →
     (Numbered words (g .at .0) useSeqNumber → measure (length words) allowance (Onward g) m < bound) →
-    SimulatesBelow words allowance (outcomeFrom (roomOf m) allowance words (Onward g) m) bound g m next n
+    SimulatesBelow words allowance (outcomeFrom (memoryRoom m) allowance words (Onward g) m) bound g m next n

@@ -11,7 +11,7 @@ use code_numbers::GO;
 use code_numbers::SELECT;
 use code_numbers::USE_SEQ;
 ghost use Rattle.run_applications.specs.Simulation.{Invariant, registersIn};
-ghost use Rattle.run_turns.specs.Turns.{statusIn, nextOf, onward, keptOf, ActingInvariant, SomeActingInvariant};
+ghost use Rattle.run_turns.specs.Turns.{statusIn, nextOf, isOnward, keptOf, ActingInvariant, SomeActingInvariant};
 ghost use Rattle.run_turns.specs.Turns.{SimulatesEntry, SimulatesTry, SimulatesUse};
 ghost use Rattle.run_turns.specs.Turns.{SimulatesInstruction, SimulatesTurn};
 use answers::Ending;
@@ -340,7 +340,7 @@ pub fn next_of(status: Status, g: Registers) -> Next
 }
 
 pub fn is_onward(status: Status) -> bool
-    ensures result { λ r. ⌜ r ≡ onward status ⌝ }
+    ensures result { λ r. ⌜ r ≡ isOnward status ⌝ }
 {
     match status {
         Status::Onward => true,

@@ -1,7 +1,7 @@
 // Whether a table is flat, by its tape: where its leftmost declared call is that is no tail call. 02's T-06.
+use arithmetic::less;
+use arithmetic::lesser;
 use tape_words::names::is_built_in;
-use tape_words::tape::less;
-use tape_words::tape::lesser;
 use tape_words::tape::name_size;
 use tape_words::tape::word_at;
 use tape_words::tape::word_inside;

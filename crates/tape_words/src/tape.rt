@@ -9,10 +9,12 @@ use crate::wide::KIND_WIDTH;
 use crate::wide::NEXT_WORD;
 use crate::wide::PART_WORD;
 use crate::wide::SYMBOL_WORD;
+use arithmetic::less;
+use arithmetic::lesser;
 ghost use mathlib.Core.Path.{_≡_};
 ghost use mathlib.Core.Bool.{false};
 ghost use mathlib.Core.List.{_∷_};
-ghost use Prim.Native.Nat.{_+_, _-_, _<_, _^_, min};
+ghost use Prim.Native.Nat.{_+_, _-_, _<_, _^_};
 ghost use lib.Dec.{ltb};
 ghost use lib.ListN.{length, take, drop, getD, replicate};
 ghost use Rattle.meaning.specs.Allowed.{maxLetters};
@@ -54,19 +56,6 @@ pub fn room() -> [usize; MAX_LETTERS]
     ensures { λ r. ⌜ r ≡ replicate maxLetters 0 ⌝ }
 {
     [0usize; MAX_LETTERS]
-}
-
-pub fn lesser(a: usize, b: usize) -> usize
-    ensures { λ r. ⌜ r ≡ min a b ⌝ }
-{
-    if a < b { a } else { b }
-}
-
-// A difference, 0 where there is none.
-pub fn less(a: usize, b: usize) -> usize
-    ensures { λ r. ⌜ r ≡ a - b ⌝ }
-{
-    if b < a { a - b } else { 0 }
 }
 
 // The word at a place inside the tape.

@@ -32,7 +32,7 @@ use Rattle.code_actions.specs.ActionWords.{spanWords, partWords, restWord, left
 use Rattle.code_actions.specs.Spanning.{meantStand, gapBy, pieceSpan, standAfter, endsBy}
 use Rattle.code_expressions.specs.Resuming.{levelAt, resume, openNames, levelsNow, remaining, restNow, itemDone, wordDone, callDone, callWords}
 use Rattle.code_expressions.specs.Resuming.{mannerNow, continues, endingWords, pastEnding, pastName, isFirst, stays, allDone, Means, InItems}
-use Rattle.code_expressions.specs.Resuming.{Innermost, ItemsOn, ItemsAll}
+use Rattle.code_expressions.specs.Resuming.{Innermost, callEndWords, itemWords, lastWords, ItemsOn, ItemsAll}
 use Rattle.tape_words.proofs.laws.Names.{name-here, name-fits-here, name-short}
 use Rattle.code_expressions.proofs.laws.Naming.{value-among, number-among}
 use Rattle.code_words.proofs.laws.Stores.{same-refl, same-trans, same-words, same-wrote, same-end}
@@ -98,7 +98,7 @@ module _ (ws heads names : List ℕ) (m : Pattern) (calls : List ℕ) (w : Walk)
       → remaining true t s ss ws calls w ≡ words ++ remaining true t s ss ws calls′ (itemDone w n (r .at) depth stand))
       → Wrote code (w .at) words code′ (r .at) → r ≡ itemDone w n (r .at) depth stand
       → length calls′ ≡ 16 → ((k : ℕ) → k < depth → getD calls′ k 0 < length ws) → depth ≤ 16
-      → depth ≤ w .depth + 1 → length words + 260 * depth ≤ 260 * w .depth + 270
+      → depth ≤ w .depth + 1 → length words + callEndWords * depth ≤ callEndWords * w .depth + itemWords
       → ItemsOn ws heads names m calls code w calls′ code′ r
   item-on {code} n read fits rest same wrote done long known deep one few =
       rw done record {
@@ -115,7 +115,7 @@ module _ (ws heads names : List ℕ) (m : Pattern) (calls : List ℕ) (w : Walk)
       → ((t : Table) (s : Shape) (ss : List (Named Site)) → Means ws heads names m t s ss
       → packActions (resume t s ss (openNames ws calls (w .depth)) (item (after n .current)) (after n .outer) (meantStand (w .stand)))
       ≡ words ++ remaining true t s ss ws calls (itemDone w n (r .at) (w .depth) stand))
-      → Wrote code (w .at) words code′ (r .at) → r ≡ itemDone w n (r .at) (w .depth) stand → length words ≤ 270
+      → Wrote code (w .at) words code′ (r .at) → r ≡ itemDone w n (r .at) (w .depth) stand → length words ≤ itemWords
       → ItemsOn ws heads names m calls code w calls code′ r
   plain-on item n read fits now same wrote done few =
       item-on n read fits (ap (λ (l : Levels). l .rest) now) (λ t s ss means. rw now (same t s ss means)) wrote done (within .room) (within .opened)
@@ -339,7 +339,7 @@ module _ (ws heads names : List ℕ) (m : Pattern) (calls : List ℕ) (w : Walk)
     calling-words t s ss means Nests number more = refl
 
     -- they are not many
-    words-short : (k : Manner) (number : ℕ) → length (callWords k (m .lengths) (w .stand) number name-called) ≤ 260
+    words-short : (k : Manner) (number : ℕ) → length (callWords k (m .lengths) (w .stand) number name-called) ≤ callEndWords
     words-short Emits number = omega (arith, name-short ws (getD calls (w .depth - 1) 0))
     words-short (Computes subtract) number = omega arith
     words-short Replaces number = omega arith
@@ -403,7 +403,7 @@ pub record ItemsSoFar (ws heads names : List ℕ) (m : Pattern) (start at : ℕ)
       → Same code₀ at (packActions (actionsOf t s ss (levelsIn 0 0 0 (drop start ws) .current))) code (w .at) (remaining (w .more) t s ss ws calls w)
   pub rest : restNow (w .more) ws w ≡ levelsIn 0 0 0 (drop start ws) .rest
   pub within : InItems ws calls w
-  pub grown : w .at + 260 * w .depth ≤ at + 270 * w .items + 2 * (1 - flag (w .more))
+  pub grown : w .at + callEndWords * w .depth ≤ at + itemWords * w .items + lastWords * (1 - flag (w .more))
 
 pub items-go-on : {ws heads names : List ℕ} {m : Pattern} {start at : ℕ} {code₀ calls code calls′ code′ : List ℕ} {w r : Walk}
     → ItemsSoFar ws heads names m start at code₀ calls code w → w .more ≡ true → ItemsOn ws heads names m calls code w calls′ code′ r

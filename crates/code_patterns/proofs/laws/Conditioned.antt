@@ -14,7 +14,10 @@ use Rattle.meaning.specs.Classes.{classNumber}
 use Rattle.meaning.specs.Tree.{Condition}
 use Rattle.meaning.specs.Instructions.{predicate}
 use Rattle.meaning.specs.Translation.{siteOr, Bounds, partTest}
-use Rattle.meaning.specs.Packing.{codeWord, siteRegister, siteOffset, truthBit, testWord}
+use Rattle.meaning.specs.Allowed.{maxLetters, maxConditions}
+use Rattle.meaning.specs.Packing.{storeNumber, truthBit, testWord}
+use Rattle.code_numbers.specs.Numbers.{first}
+use Rattle.tape_layout.specs.Tape.{classCount, conditionTruth, conditionPart, conditionWord, equalsWord}
 use Rattle.tape_words.specs.declared.tape.Parts.{Parts}
 use Rattle.tape_words.specs.declared.tape.Parts.the-variants.{Zero, One, Two}
 use Rattle.code_patterns.specs.declared.pattern.Lengths.{Lengths}
@@ -25,7 +28,8 @@ use Rattle.tape_words.specs.Words.{carried, headNames, isConditionWord, classIn
 use Rattle.code_patterns.specs.Scans.{Scan, scanned, prepended, conditionOf, conditionIn, conditionBy, conditionsOnTape}
 use Rattle.code_words.specs.Writing.{Wrote, Same}
 use Rattle.tape_words.specs.Finding.{numberAmong}
-use Rattle.code_patterns.specs.Testing.{siteNumber, IsSite, storeOfSite, foundSite, held, total}
+use Rattle.code_patterns.specs.Testing.{siteNumber, siteNumbers, SmallSite, IsSite, storeOfSite, foundSite, held, total}
+use Rattle.code_patterns.specs.Conditioning.{cellTestWord, partTestWord}
 use Rattle.code_patterns.specs.Conditioning.{Located, located, Kept, boundsIn, boundsBy, conditionTestBy, conditionAt, coming}
 use Rattle.code_patterns.specs.Conditioning.{conditionWords, conditionDone, conditionsDone, InConditions, ConditionsOn, ConditionsAll}
 use Rattle.meaning.proofs.laws.Remaining.{at-place}
@@ -60,29 +64,29 @@ condition-inside ws i count e =
     by-place ws i (λ h. h) (λ h. absurd (let f : false ≡ true = rw (drop-of-length-le ws h) at e in let z : _≡_ {A = ℕ} 0 1 = cc in omega arith))
 
 -- there was room for one more
-pub condition-room : (ws : List ℕ) (i count : ℕ) → conditionAt count (drop i ws) ≡ true → count < 8
+pub condition-room : (ws : List ℕ) (i count : ℕ) → conditionAt count (drop i ws) ≡ true → count < maxConditions
 condition-room ws i count e =
     let w = getD ws i 0 in
     let f : isConditionWord count w ≡ true = rw (at-place ws i (condition-inside ws i count e)) at e in
-    leb-false 8 count (by-test (leb 8 count) (pick (ltb w 768) false (ltb w 1024)) f)
+    leb-false maxConditions count (by-test (leb maxConditions count) (pick (ltb w conditionWord) false (ltb w equalsWord)) f)
   where
     by-test : (a b : Bool) → pick a false b ≡ true → a ≡ false
     by-test true b g = absurd (let z : _≡_ {A = ℕ} 0 1 = cc in omega arith)
     by-test false b g = refl
 
-pub conditions-full : (count : ℕ) (l : List ℕ) → 8 ≤ count → false ≡ conditionAt count l
+pub conditions-full : (count : ℕ) (l : List ℕ) → maxConditions ≤ count → false ≡ conditionAt count l
 conditions-full count [] h = refl
-conditions-full count (w ∷ l) h = rw (le-leb 8 count h)
+conditions-full count (w ∷ l) h = rw (le-leb maxConditions count h)
 
 -- by the word at a place, 0 past the end
-pub condition-by-word : (ws : List ℕ) (i count : ℕ) {codeWord : ℕ} {r : Bool} → count < 8 → codeWord ≡ getD ws i 0
-    → r ≡ pick (ltb codeWord 768) false (ltb codeWord 1024) → r ≡ conditionAt count (drop i ws)
+pub condition-by-word : (ws : List ℕ) (i count : ℕ) {codeWord : ℕ} {r : Bool} → count < maxConditions → codeWord ≡ getD ws i 0
+    → r ≡ pick (ltb codeWord conditionWord) false (ltb codeWord equalsWord) → r ≡ conditionAt count (drop i ws)
 condition-by-word ws i count h e f =
-    f ∙ rw e (by-place ws i (λ k. rw (at-place ws i k, lt-leb 8 count h)) (λ k. rw (drop-of-length-le ws k, List·getD-eq-default ws 0 k)))
+    f ∙ rw e (by-place ws i (λ k. rw (at-place ws i k, lt-leb maxConditions count h)) (λ k. rw (drop-of-length-le ws k, List·getD-eq-default ws 0 k)))
 
 -- ITS WORD
 
-class-number : (n : ℕ) → n < 5 → classNumber (classIn n) ≡ n
+class-number : (n : ℕ) → n < classCount → classNumber (classIn n) ≡ n
 class-number zero h = refl
 class-number (suc zero) h = refl
 class-number (suc (suc zero)) h = refl
@@ -96,29 +100,28 @@ truth-bit (suc zero) h = refl
 truth-bit (suc (suc n)) h = absurd (omega arith)
 
 -- the bounds of a part fit a word's operands
-pub bounds-small : (l : Lengths) (first : Bool) {b : PartBounds} → total l ≤ 64 → b ≡ boundsIn (boundsBy (l .parts) l first)
-    → (b .from .register ≤ 2) × (b .from .offset ≤ 64) × (b .to .register ≤ 2) × (b .to .offset ≤ 64)
+pub bounds-small : (l : Lengths) (first : Bool) {b : PartBounds} → total l ≤ maxLetters → b ≡ boundsIn (boundsBy (l .parts) l first)
+    → SmallSite (b .from) × SmallSite (b .to)
 bounds-small l first h e = rw e (by-parts (l .parts) first)
   where
     by-parts : (p : Parts) (first : Bool) → let b = boundsBy p l first in
-        (siteRegister (b .from) ≤ 2) × (siteOffset (b .from) ≤ 64) × (siteRegister (b .to) ≤ 2) × (siteOffset (b .to) ≤ 64)
+        SmallSite (siteNumbers (b .from)) × SmallSite (siteNumbers (b .to))
     by-parts Zero first = omega arith
     by-parts One first = omega arith
     by-parts Two true = omega arith
     by-parts Two false = omega arith
 
 part-word : (b : Bounds) (n : ℕ)
-    → codeWord 20 (siteRegister (b .from) + 4 * siteRegister (b .to) + 16 * (n / 5 % 2) + 32 * (n % 5)) (siteOffset (b .from)) (siteOffset (b .to))
-    ≡ testWord (partTest b (classIn (n % 5)) (eqb (n / 5 % 2) 1))
-part-word b n = omega (arith, class-number (n % 5) (omega arith), truth-bit (n / 5 % 2) (omega arith))
+    → partTestWord (siteNumbers (b .from)) (siteNumbers (b .to)) n ≡ testWord (partTest b (classIn (n % classCount)) (eqb (n / conditionTruth % 2) 1))
+part-word b n = omega (arith, class-number (n % classCount) (omega arith), truth-bit (n / conditionTruth % 2) (omega arith))
 
 -- the test of a condition on an e-variable, from what the code worked out
-pub part-asked : (known : Located) (n : ℕ) (x : Name) {first : Bool} {b : PartBounds} {r : ℕ} → n / 10 % 2 ≡ 1 → first ≡ sameBytes x (known .variable)
-    → b ≡ boundsIn (boundsBy (known .lengths .parts) (known .lengths) first)
-    → r ≡ codeWord 20 (b .from .register + 4 * b .to .register + 16 * (n / 5 % 2) + 32 * (n % 5)) (b .from .offset) (b .to .offset)
+pub part-asked : (known : Located) (n : ℕ) (x : Name) {first : Bool} {b : PartBounds} {r : ℕ} → n / conditionPart % 2 ≡ 1
+    → first ≡ sameBytes x (known .variable) → b ≡ boundsIn (boundsBy (known .lengths .parts) (known .lengths) first)
+    → r ≡ partTestWord (b .from) (b .to) n
     → r ≡ testWord (conditionTestBy known (conditionOf n x))
 part-asked known n x {first} k is f e =
-    e ∙ rw (f, eq-eqb (n / 10 % 2) 1 k, ← is) (part-word (boundsBy (known .lengths .parts) (known .lengths) first) n)
+    e ∙ rw (f, eq-eqb (n / conditionPart % 2) 1 k, ← is) (part-word (boundsBy (known .lengths .parts) (known .lengths) first) n)
 
 module _ (ws : List ℕ) (m : Pattern) (names sites : List ℕ) (symbols : ℕ) (kept : Kept m names sites symbols) (x : Name) where
   abbrev found : ℕ
@@ -131,15 +134,15 @@ module _ (ws : List ℕ) (m : Pattern) (names sites : List ℕ) (symbols : ℕ) 
     | no e ↦ rw (lookup-some ws names sites symbols x (kept .nameRoom) (kept .siteRoom) e h, ne-eqb found 0 e) (kept .good (found - 1) .same)
   ]
 
-  symbol-word : (n : ℕ) → found ≤ symbols → 3 + 256 * foundSite found sites + 1024 * (n / 5 % 2) + 16777216 * (n % 5)
-      ≡ testWord (predicate (siteOr (lookup x (held ws names sites symbols))) (classIn (n % 5)) (eqb (n / 5 % 2) 1))
-  symbol-word n h = omega (arith, found-number h, class-number (n % 5) (omega arith), truth-bit (n / 5 % 2) (omega arith))
+  symbol-word : (n : ℕ) → found ≤ symbols → cellTestWord (foundSite found sites) n
+      ≡ testWord (predicate (siteOr (lookup x (held ws names sites symbols))) (classIn (n % classCount)) (eqb (n / conditionTruth % 2) 1))
+  symbol-word n h = omega (arith, found-number h, class-number (n % classCount) (omega arith), truth-bit (n / conditionTruth % 2) (omega arith))
 
   -- the same on an s-variable
-  pub symbol-asked : (n : ℕ) {number site r : ℕ} → (n / 10 % 2 ≡ 1 → ⊥) → number ≡ found → number ≤ symbols → site ≡ foundSite number sites
-      → r ≡ 3 + 256 * site + 1024 * (n / 5 % 2) + 16777216 * (n % 5)
+  pub symbol-asked : (n : ℕ) {number site r : ℕ} → (n / conditionPart % 2 ≡ 1 → ⊥) → number ≡ found → number ≤ symbols → site ≡ foundSite number sites
+      → r ≡ cellTestWord site n
       → r ≡ testWord (conditionTestBy (located ws m names sites symbols) (conditionOf n x))
-  symbol-asked n k en h es e = e ∙ rw (es, en, ne-eqb (n / 10 % 2) 1 k) (symbol-word n (rw (← en) h))
+  symbol-asked n k en h es e = e ∙ rw (es, en, ne-eqb (n / conditionPart % 2) 1 k) (symbol-word n (rw (← en) h))
 
 -- THE STEPS
 
@@ -232,5 +235,5 @@ conditions-all s e =
 
 -- THE STORES
 
-pub store-word : (n : ℕ) → IsSite n → storeOfSite n ≡ 4 + 256 * n
+pub store-word : (n : ℕ) → IsSite n → storeOfSite n ≡ storeNumber + first * n
 store-word n h = omega (arith, h .same)

@@ -14,29 +14,31 @@ use native.Mathlib.Decide.{decLe, ℕ-discrete}
 use native.Mathlib.Nat.{lt-of-not-le}
 use Rattle.meaning.specs.Choice.{Name, pick, sameBytes, Named, lookup}
 use Rattle.meaning.specs.Instructions.{Site, fromStart, fromEnd, fromPlace}
-use Rattle.meaning.specs.Packing.{siteRegister, siteOffset}
+use Rattle.meaning.specs.Allowed.{maxLetters}
+use Rattle.meaning.specs.Packing.{fromStartNumber, fromEndNumber, fromPlaceNumber, siteRegister, siteOffset}
+use Rattle.code_numbers.specs.Numbers.{operand}
 use Rattle.tape_words.specs.Words.{headName, headNames}
 use Rattle.tape_words.specs.Finding.{numberAmong}
 use Rattle.meaning.proofs.laws.Words.{register-below}
 use Rattle.tape_words.specs.declared.tape.Parts.{Parts}
 use Rattle.tape_words.specs.declared.tape.Parts.the-variants.{Zero, One, Two}
 use Rattle.code_patterns.specs.declared.pattern.Lengths.{Lengths}
-use Rattle.code_patterns.specs.Testing.{lastOf, siteBy, siteAt, siteNumber, siteIn, IsSite, AllSites, foundSite, heldSites, held, total}
+use Rattle.code_patterns.specs.Testing.{siteNumbers, SmallSite, lastOf, siteBy, siteAt, siteNumber, siteIn, IsSite, AllSites, foundSite, heldSites, held, total}
 
 -- CELLS AS NUMBERS
 
-low-byte : (r k : ℕ) → r < 256 → (r + 256 * k) % 256 ≡ r
+low-byte : (r k : ℕ) → r < operand → (r + operand * k) % operand ≡ r
 low-byte r k h = omega arith
 
-high-part : (r k : ℕ) → r < 256 → (r + 256 * k) / 256 ≡ k
+high-part : (r k : ℕ) → r < operand → (r + operand * k) / operand ≡ k
 high-part r k h = omega arith
 
 pub site-back : (s : Site) → siteIn (siteNumber s) ≡ s
-site-back (fromStart k) = rw (low-byte 0 k (omega arith), high-part 0 k (omega arith))
-site-back (fromEnd k) = rw (low-byte 1 k (omega arith), high-part 1 k (omega arith))
-site-back (fromPlace k) = rw (low-byte 2 k (omega arith), high-part 2 k (omega arith))
+site-back (fromStart k) = rw (low-byte fromStartNumber k (omega arith), high-part fromStartNumber k (omega arith))
+site-back (fromEnd k) = rw (low-byte fromEndNumber k (omega arith), high-part fromEndNumber k (omega arith))
+site-back (fromPlace k) = rw (low-byte fromPlaceNumber k (omega arith), high-part fromPlaceNumber k (omega arith))
 
-pub site-number : (s : Site) → siteOffset s ≤ 64 → IsSite (siteNumber s)
+pub site-number : (s : Site) → siteOffset s ≤ maxLetters → IsSite (siteNumber s)
 site-number s h = record { same = ap siteNumber (site-back s); small = omega (arith, register-below s) }
 
 pub all-set : (sites : List ℕ) (k v : ℕ) → AllSites sites → IsSite v → AllSites (set sites k v)
@@ -54,16 +56,16 @@ found-good sites good n = by-test (eqb n 0)
     by-test true = record { same = refl; small = omega arith }
     by-test false = good (n - 1)
 
-pub site-small : (l : Lengths) (template : Parts) (o : ℕ) → total l ≤ 64 → o ≤ 64
-    → (siteRegister (siteAt l template o) ≤ 2) × (siteOffset (siteAt l template o) ≤ 64)
+pub site-small : (l : Lengths) (template : Parts) (o : ℕ) → total l ≤ maxLetters → o ≤ maxLetters
+    → SmallSite (siteNumbers (siteAt l template o))
 site-small l template o h g = by-parts (l .parts) template (lastOf (l .parts) l) (last-small (l .parts))
   where
-    last-small : (p : Parts) → lastOf p l ≤ 64
+    last-small : (p : Parts) → lastOf p l ≤ maxLetters
     last-small Zero = omega arith
     last-small One = omega arith
     last-small Two = omega arith
 
-    by-parts : (p k : Parts) (n : ℕ) → n ≤ 64 → (siteRegister (siteBy p k n o) ≤ 2) × (siteOffset (siteBy p k n o) ≤ 64)
+    by-parts : (p k : Parts) (n : ℕ) → n ≤ maxLetters → SmallSite (siteNumbers (siteBy p k n o))
     by-parts p Zero n m = (omega arith, omega arith)
     by-parts Zero One n m = (omega arith, omega arith)
     by-parts One One n m = (omega arith, omega arith)

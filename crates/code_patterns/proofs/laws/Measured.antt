@@ -6,6 +6,7 @@ use mathlib.Core.Path.{_≡_, refl, sym, ap, ap₂, _∙_}
 use mathlib.Core.Bool.{Bool, true, false}
 use mathlib.Core.List.{List, []}
 use lib.ListN.{length, drop, getD}
+use Rattle.meaning.specs.Allowed.{maxLetters}
 use Rattle.meaning.specs.Choice.{Name}
 use Rattle.meaning.specs.Tree.{Letter, character, symbol, Element, letter, part}
 use Rattle.meaning.specs.Translation.{Shape, fixed, open₁, open₂, withLetter, cutAt, shapeOf}
@@ -138,7 +139,7 @@ module _ (ws : List ℕ) (m : Pattern) where
     sum-longer One a b c n e = omega arith
     sum-longer Two a b c n e = omega arith
 
-    letter-measures : {r : Pattern} (size : ℕ) → m .letters < 64 → m .next + 1 + size ≤ length ws
+    letter-measures : {r : Pattern} (size : ℕ) → m .letters < maxLetters → m .next + 1 + size ≤ length ws
         → measuring true ws (pastLetter m size) ≡ measuring true ws m → r ≡ pastLetter m size → Measures ws m r
     letter-measures size room fits same done =
         rw done record {

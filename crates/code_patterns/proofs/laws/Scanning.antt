@@ -9,6 +9,7 @@ use lib.ListN.{length, take, drop, getD, drop-of-length-le}
 use Rattle.meaning.specs.Choice.{Name, pick}
 use Rattle.meaning.specs.Tree.{Letter, Element, letter, part}
 use Rattle.meaning.specs.Allowed.{maxLetters}
+use Rattle.tape_layout.specs.Tape.{symbolWord, partWord, conditionWord}
 use Rattle.meaning.specs.Translation.{Shape, fixed, open₁, open₂, withLetter, cutAt, shapeOf}
 use Rattle.tape_words.specs.declared.tape.Parts.{Parts}
 use Rattle.tape_words.specs.declared.tape.Parts.the-variants.{Zero, One, Two}
@@ -37,8 +38,8 @@ pieceTests a b c d parts = pick a PatternEnd (pick b (partPiece parts) (pick c P
 
 module _ (ws : List ℕ) (i letters : ℕ) where
   abbrev pub Told : Parts → Piece → Type 0
-  Told parts Character = (i < length ws) × (letters < 64) × (getD ws i 0 < 256)
-  Told parts SVariable = Named ws i × (letters < 64)
+  Told parts Character = (i < length ws) × (letters < maxLetters) × (getD ws i 0 < symbolWord)
+  Told parts SVariable = Named ws i × (letters < maxLetters)
   Told parts EVariable = Named ws i × NotBoth parts
   Told parts PatternEnd = Unit {0}
 
@@ -50,13 +51,13 @@ module _ (ws : List ℕ) (i letters : ℕ) where
   part-told One h = (named h, tt)
   part-told Two h = tt
 
-  word-told : (a b c d : Bool) (parts : Parts) → leb maxLetters letters ≡ c → leb 256 (getD ws i 0) ≡ d → i < length ws →
+  word-told : (a b c d : Bool) (parts : Parts) → leb maxLetters letters ≡ c → leb symbolWord (getD ws i 0) ≡ d → i < length ws →
       Told parts (pieceTests a b c d parts)
   word-told true b c d parts room byte h = tt
   word-told false true c d parts room byte h = part-told parts h
   word-told false false true d parts room byte h = tt
-  word-told false false false true parts room byte h = (named h, leb-false 64 letters room)
-  word-told false false false false parts room byte h = (h, leb-false 64 letters room, leb-false 256 (getD ws i 0) byte)
+  word-told false false false true parts room byte h = (named h, leb-false maxLetters letters room)
+  word-told false false false false parts room byte h = (h, leb-false maxLetters letters room, leb-false symbolWord (getD ws i 0) byte)
 
   pub told : (parts : Parts) (p : Piece) → pieceAt (drop i ws) letters parts ≡ p → Told parts p
   told parts p e = subst (Told parts) e (by-place ws i on-tape (λ h. rw (drop-of-length-le ws h) tt))
@@ -64,7 +65,7 @@ module _ (ws : List ℕ) (i letters : ℕ) where
       on-tape : i < length ws → Told parts (pieceAt (drop i ws) letters parts)
       on-tape h =
           let w = getD ws i 0 in
-          rw (at-place ws i h) (word-told (leb 768 w) (leb 512 w) (leb maxLetters letters) (leb 256 w) parts refl refl h)
+          rw (at-place ws i h) (word-told (leb conditionWord w) (leb partWord w) (leb maxLetters letters) (leb symbolWord w) parts refl refl h)
 
 -- READING
 

@@ -9,7 +9,9 @@ use lib.ListN.{length, take, drop, getD, set, length-set}
 use Rattle.meaning.specs.Choice.{Name, Named, lookup}
 use Rattle.meaning.specs.Tree.{character, symbol, Element, letter, part}
 use Rattle.meaning.specs.Instructions.{Site, Test, look, compare}
-use Rattle.meaning.specs.Packing.{siteRegister, siteOffset, testWord}
+use Rattle.meaning.specs.Allowed.{maxLetters}
+use Rattle.meaning.specs.Packing.{testWord}
+use Rattle.code_numbers.specs.Numbers.{operand}
 use Rattle.meaning.specs.Translation.{Tested, testedSymbol}
 use Rattle.tape_words.specs.declared.tape.Parts.{Parts}
 use Rattle.tape_words.specs.declared.tape.Parts.the-variants.{Zero}
@@ -23,8 +25,8 @@ use Rattle.code_patterns.specs.Scans.{Scan, scanned, prepended, oneMore,
 use Rattle.code_words.specs.Writing.{Wrote, Same}
 use Rattle.tape_words.specs.Finding.{numberAmong}
 use Rattle.code_patterns.specs.Measuring.{flag}
-use Rattle.code_patterns.specs.Testing.{siteNumbers, siteAt, siteNumber, siteIn, AllSites, foundSite, held, walk, startFrom, testing, testWords}
-use Rattle.code_patterns.specs.Testing.{InTests, TestsOn, letterDone, partDone, testsDone, TestsAll, total}
+use Rattle.code_patterns.specs.Testing.{siteNumbers, SmallSite, siteAt, siteNumber, siteIn, AllSites, foundSite, held, walk, startFrom, testing, testWords}
+use Rattle.code_patterns.specs.Testing.{compareTestWord, InTests, TestsOn, letterDone, partDone, testsDone, TestsAll, total}
 use Rattle.tape_words.proofs.laws.Names.{name-here, name-part}
 use Rattle.code_words.proofs.laws.Stores.{same-refl, same-trans, same-words, same-wrote, same-end}
 use Rattle.code_patterns.proofs.laws.Scanning.{Told, told, pattern-at, pattern-end, pattern-past}
@@ -67,12 +69,12 @@ module _ (l : Lengths) where
 
 -- the word of a comparison, from the number that the first cell is kept as
 compare-word : (a : ℕ) (s : Site) → siteNumber (siteIn a) ≡ a
-    → testWord (compare (siteIn a) s) ≡ 2 + 256 * a + 1024 * siteRegister s + 16777216 * siteOffset s
+    → testWord (compare (siteIn a) s) ≡ compareTestWord a (siteNumbers s)
 compare-word a s e = omega (arith, e)
 
 -- the cell of the next letter is near
-pub site-near : {ws names sites : List ℕ} {t : Tests} (l : Lengths) → InTests ws names sites t → total l ≤ 64
-    → (siteRegister (siteAt l (t .parts) (t .offset)) ≤ 2) × (siteOffset (siteAt l (t .parts) (t .offset)) ≤ 64)
+pub site-near : {ws names sites : List ℕ} {t : Tests} (l : Lengths) → InTests ws names sites t → total l ≤ maxLetters
+    → SmallSite (siteNumbers (siteAt l (t .parts) (t .offset)))
 site-near {t = t} l within small = site-small l (t .parts) (t .offset) small (omega (arith, within .offset, within .letters))
 
 -- `piece` is the one where the tests stand
@@ -106,8 +108,9 @@ module _ (ws : List ℕ) (l : Lengths) (names sites : List ℕ) (t : Tests) (wit
 
   -- BOUNDS AFTER A STEP
 
-  letter-within : {names′ sites′ : List ℕ} {symbols at : ℕ} (n : ℕ) → t .letters < 64 → t .next + 1 + n ≤ length ws → length names′ ≡ 64 →
-      length sites′ ≡ 64
+  letter-within : {names′ sites′ : List ℕ} {symbols at : ℕ} (n : ℕ) → t .letters < maxLetters → t .next + 1 + n ≤ length ws →
+      length names′ ≡ maxLetters →
+      length sites′ ≡ maxLetters
       → AllSites sites′ → symbols ≤ t .symbols + 1 → at ≤ t .at + 1 → InTests ws names′ sites′ (letterDone t symbols n at)
   letter-within n room fits hn hs good h g =
       record {
@@ -141,7 +144,7 @@ module _ (ws : List ℕ) (l : Lengths) (names sites : List ℕ) (t : Tests) (wit
   -- one test is written
   test-on : {code code′ : List ℕ} {r : Tests} {word : ℕ} (n : ℕ) (x : Test) → testWord x ≡ word
       → testing true ws l names sites t ≡ scanned (prefixed (x ∷ []) (walked n known)) (afterLetter n .rest)
-      → Wrote code (t .at) (word ∷ []) code′ (r .at) → r ≡ letterDone t (t .symbols) n (r .at) → t .letters < 64 → t .next + 1 + n ≤ length ws
+      → Wrote code (t .at) (word ∷ []) code′ (r .at) → r ≡ letterDone t (t .symbols) n (r .at) → t .letters < maxLetters → t .next + 1 + n ≤ length ws
       → TestsOn ws l names sites code t names sites code′ r
   test-on {code} n x e now wrote done room fits =
       rw done record {
@@ -191,7 +194,7 @@ module _ (ws : List ℕ) (l : Lengths) (names sites : List ℕ) (t : Tests) (wit
   abbrev found : ℕ
   found = numberAmong 0 (headNames ws (take (t .symbols) names)) (headName ws (t .next))
 
-  symbols-fit : t .symbols ≤ 64
+  symbols-fit : t .symbols ≤ maxLetters
   symbols-fit = omega (arith, within .symbols, within .letters)
 
   -- after it, by what is known of it
@@ -214,7 +217,7 @@ module _ (ws : List ℕ) (l : Lengths) (names sites : List ℕ) (t : Tests) (wit
       base = rw now
 
   equal-on : {code code′ : List ℕ} {r : Tests} → piece ≡ SVariable → (found ≡ 0 → ⊥) → found ≤ t .symbols
-      → Wrote code (t .at) ((2 + 256 * foundSite found sites + 1024 * siteRegister site + 16777216 * siteOffset site) ∷ []) code′ (r .at)
+      → Wrote code (t .at) (compareTestWord (foundSite found sites) (siteNumbers site) ∷ []) code′ (r .at)
       → r ≡ letterDone t (t .symbols) size (r .at) → TestsOn ws l names sites code t names sites code′ r
   equal-on e h g wrote done =
       let first = siteIn (foundSite found sites) in
@@ -228,7 +231,7 @@ module _ (ws : List ℕ) (l : Lengths) (names sites : List ℕ) (t : Tests) (wit
       (walk-prefix l (afterLetter size .value) (t .parts) (t .offset + 1) (compare first site ∷ []) known))
       wrote done room (named .fits)
 
-  new-on : {code : List ℕ} → piece ≡ SVariable → total l ≤ 64 → found ≡ 0
+  new-on : {code : List ℕ} → piece ≡ SVariable → total l ≤ maxLetters → found ≡ 0
       → TestsOn ws l names sites code t (set names (t .symbols) (t .next)) (set sites (t .symbols) (siteNumber site)) code
       (letterDone t (t .symbols + 1) size (t .at))
   new-on e small h =
@@ -272,7 +275,7 @@ module _ (ws : List ℕ) (l : Lengths) (names sites : List ℕ) (t : Tests) (wit
 -- an s-variable was looked for: its cell, its length and the number under which it was found
 pub record Looked (ws : List ℕ) (l : Lengths) (names sites : List ℕ) (t : Tests) (cell : Cell) (n k : ℕ) : Type 0 where
   pub within : InTests ws names sites t
-  pub near : total l ≤ 64
+  pub near : total l ≤ maxLetters
   pub is : pieceAt (drop (t .next) ws) (t .letters) (t .parts) ≡ SVariable
   pub sited : cell ≡ siteNumbers (siteAt l (t .parts) (t .offset))
   pub long : n ≡ length (headName ws (t .next))
@@ -283,13 +286,13 @@ module _ {ws : List ℕ} {l : Lengths} {names sites : List ℕ} {t : Tests} {cel
   number = s .found ∙ ap (numberAmong 0 (headNames ws (take (t .symbols) names))) (rw (s .long) (sym (name-part ws (t .next))))
 
   pub new-symbol-on : {names′ sites′ code : List ℕ} {r : Tests} → k ≡ 0 → r ≡ letterDone t (t .symbols + 1) n (t .at)
-      → names′ ≡ set names (t .symbols) (t .next) → sites′ ≡ set sites (t .symbols) (cell .register + 256 * cell .offset)
+      → names′ ≡ set names (t .symbols) (t .next) → sites′ ≡ set sites (t .symbols) (cell .register + operand * cell .offset)
       → TestsOn ws l names sites code t names′ sites′ code r
   new-symbol-on z done named kept =
       rw (done, named, kept, s .sited, s .long) (new-on ws l names sites t (s .within) refl (s .is) (s .near) (sym number ∙ z))
 
   pub equal-symbol-on : {code code′ : List ℕ} {r : Tests} → (k ≡ 0 → ⊥) → k ≤ t .symbols
-      → Wrote code (t .at) ((2 + 256 * foundSite k sites + 1024 * cell .register + 16777216 * cell .offset) ∷ []) code′ (r .at)
+      → Wrote code (t .at) (compareTestWord (foundSite k sites) cell ∷ []) code′ (r .at)
       → r ≡ letterDone t (t .symbols) n (r .at) → TestsOn ws l names sites code t names sites code′ r
   equal-symbol-on h most wrote done =
       equal-on ws l names sites t (s .within) refl (s .is) (λ z. h (number ∙ z)) (omega (arith, number)) (rw (number, s .sited) at wrote)

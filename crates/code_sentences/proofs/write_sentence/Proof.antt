@@ -3,6 +3,8 @@ use Prim.Native.Nat.{_+_, _≤_, _^_}
 use native.Mathlib.Omega.{arith}
 use Rattle.code_sentences.proofs.Sentenced.{body-ahead, sentenced}
 use borrow.Author.Needs.{needs}
+use Rattle.meaning.specs.Allowed.{maxLetters}
+use Rattle.code_sentences.specs.Sentencing.{maxTests, mostBodyWords}
 use Rattle.code_sentences.proofs.write_sentence.Statement.{statement}
 use Rattle.code_sentences.proofs.write_sentence.Tie as tie
 
@@ -11,7 +13,7 @@ near c = omega (arith, c .put-metric .ensures .next, c .before .before .before .
 
 -- what the counts of the body are at most
 bounds : (c : tie.After-write-body) → let b = c .write-body .result in
-    (b .tests ≤ 72) × (b .symbols ≤ 64) × (b .at ≤ c .before .before .before .before .put-metric .result + 1 + 34800)
+    (b .tests ≤ maxTests) × (b .symbols ≤ maxLetters) × (b .at ≤ c .before .before .before .before .put-metric .result + 1 + mostBodyWords)
 bounds c = let e = c .write-body .ensures in (e .few .0, e .few .1, e .grown)
 
 measure-requires : tie.Need-measure-requires

@@ -19,7 +19,7 @@ use Rattle.tape_words.specs.Words.{nameIn, headName, headNames}
 use Rattle.tape_words.specs.Finding.{recovererAmong}
 use Rattle.code_sentences.specs.Trees.{isFunctionWord, functionsOnTape, functionOnTape, sentencesOnTape, treeOf}
 use Rattle.code_words.specs.Writing.{Wrote}
-use Rattle.code_sentences.specs.Sentencing.{FunctionAll}
+use Rattle.code_sentences.specs.Sentencing.{functionWords, FunctionAll}
 use Rattle.code_table.specs.Declaring.{HeadsInside, wordsFrom, headsLeft, HeadsOn, HeadsAll, translatedAt, translatedAll, EntryAll}
 use Rattle.code_table.specs.Declaring.{FunctionsAll}
 use Rattle.code_table.specs.Leaves.{codeOf}
@@ -179,7 +179,7 @@ pub record FunctionsSoFar (ws heads code₀ : List ℕ) (at₀ : ℕ) (code : Li
   pub size : length code ≡ length code₀
   pub few : k ≤ length heads
   pub after : length heads < at
-  pub grown : at ≤ 65 + 17920001 * k
+  pub grown : at ≤ suc maxFunctions + functionWords * k
 
 pub functions-none : (ws heads code : List ℕ) (at : ℕ) → at ≡ length heads + 1 → length heads ≤ 64 → FunctionsSoFar ws heads code at code at 0
 functions-none ws heads code at e h =

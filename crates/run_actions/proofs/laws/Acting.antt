@@ -28,7 +28,7 @@ use Rattle.run_actions.specs.declared.moving.Reached.the-variants.{At, W
 use Rattle.run_decoding.specs.Decoded.{spanMeant}
 use Rattle.answers.specs.Numbers.{endingNumber}
 use Rattle.run_actions.specs.Spans.{cellsOf, reachedBy}
-use Rattle.run_actions.specs.States.{Memory, memory, frameWord, localOf, stacksOf, Ledgers, ledgerOf, roomOf, movedTo, ActionInvariant}
+use Rattle.run_actions.specs.States.{Memory, memory, frameWord, localOf, stacksOf, Ledgers, ledgerOf, memoryRoom, movedTo, ActionInvariant}
 use Rattle.run_actions.specs.States.{Outcomes, Continuation, Writes, Preserves, ImplementsAction, HasValues}
 use Rattle.run_sites.proofs.laws.Lists.{nth-in, nth-out}
 use Rattle.run_actions.proofs.laws.Spanning.{counted, not-counted, led, not-led}
@@ -55,7 +55,7 @@ module _ (g : Registers) (m : Memory) where
   -- what the machine's action does here
   abbrev pub Performing : Action → ℕ → Code → (ℕ → ℕ → Stacks → Ledgers → Outcomes) → Continuation → Outcomes
   Performing action allowance code enter k =
-      perform (lent (roomOf m)) code enter k (suc (g .frame)) action (localOf g m) (stacksOf g m) (ledgerOf allowance g m)
+      perform (lent (memoryRoom m)) code enter k (suc (g .frame)) action (localOf g m) (stacksOf g m) (ledgerOf allowance g m)
 
   -- an action that stops
   pub stops : (action : Action) (at : ℕ) (ending : Ending) →

@@ -14,7 +14,7 @@ use Rattle.run_actions.specs.declared.registers.Registers.{Registers}
 use Rattle.answers.specs.declared.Ending.the-variants.{NoInstruction, RecordFull}
 use Rattle.run_actions.specs.declared.registers.Next.the-variants.{Onward, Stopped}
 use Rattle.run_decoding.specs.Decoded.{isName}
-use Rattle.run_actions.specs.States.{Memory, memory, ImplementsAction}
+use Rattle.run_actions.specs.States.{lineMarks, Memory, memory, ImplementsAction}
 use Rattle.run_actions.proofs.laws.Acting.{part-long, stops}
 use Rattle.run_actions.proofs.laws.Naming.{spelled, spelled-long, length-line}
 
@@ -34,7 +34,7 @@ module _ (g : Registers) (m : Memory) (words : Words) (n : ℕ) where
     line = emittedLine (take n (drop (g .at .0) words)) (take (g .q .0 - g .p .0) (drop (g .p .0) (m .input)))
 
     abbrev size : ℕ
-    size = n + (g .q .0 - g .p .0) + 2
+    size = n + (g .q .0 - g .p .0) + lineMarks
 
     sized : length line ≡ size
     sized =

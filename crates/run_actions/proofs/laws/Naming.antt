@@ -14,16 +14,18 @@ use Rattle.meaning.specs.Choice.{Bytes, every}
 use Rattle.meaning.specs.Outcome.{emittedLine}
 use Rattle.meaning.specs.Allowed.{isByte}
 use Rattle.meaning.specs.Packing.{Words}
+use Rattle.code_numbers.specs.Numbers.{operand}
 use Rattle.run_decoding.specs.Decoded.{isName}
+use Rattle.run_actions.specs.States.{lineMarks}
 use Rattle.meaning.proofs.laws.Choosing.{both-parts}
 use Rattle.meaning.proofs.laws.Remaining.{at-place}
 
 -- WORDS THAT ARE BYTES
 
-every-at : (l : Words) (i : ℕ) → every isByte l ≡ true → i < length l → getD l i 0 < 256
+every-at : (l : Words) (i : ℕ) → every isByte l ≡ true → i < length l → getD l i 0 < operand
 unfolding every
 every-at [] i e h = absurd (not-suc-le-zero h)
-every-at (x ∷ l) zero e h = ltb-true x 256 (both-parts (isByte x) (every isByte l) e .0)
+every-at (x ∷ l) zero e h = ltb-true x operand (both-parts (isByte x) (every isByte l) e .0)
 every-at (x ∷ l) (suc i) e h = every-at l i (both-parts (isByte x) (every isByte l) e .1) (le-of-suc-le-suc h)
 
 module _ (words : Words) (at : ℕ) where
@@ -36,19 +38,18 @@ module _ (words : Words) (at : ℕ) where
   naming-none i zero h = refl
   naming-none i (suc n) h = absurd (not-suc-le-zero h)
 
-  pub naming-wide : (i n : ℕ) → 0 < n → at + i < length words → 255 < getD words (at + i) 0 → naming i n ≡ false
+  pub naming-wide : (i n : ℕ) → 0 < n → at + i < length words → operand ≤ getD words (at + i) 0 → naming i n ≡ false
   unfolding every
   naming-wide i zero h h′ w = absurd (not-suc-le-zero h)
-  naming-wide i (suc n) h h′ w = rw (at-place words (at + i) h′, le-ltb (getD words (at + i) 0) 256 w)
+  naming-wide i (suc n) h h′ w = rw (at-place words (at + i) h′, le-ltb (getD words (at + i) 0) operand w)
 
-  naming-more : (i n : ℕ) → at + i < length words → getD words (at + i) 0 ≤ 255 → naming i (suc n) ≡ naming (i + 1) n
+  naming-more : (i n : ℕ) → at + i < length words → getD words (at + i) 0 < operand → naming i (suc n) ≡ naming (i + 1) n
   unfolding every
   naming-more i n h′ w =
-      let low : getD words (at + i) 0 < 256 = omega arith in
       let next : at + i + 1 ≡ at + (i + 1) = omega arith in
-      rw (at-place words (at + i) h′, lt-ltb (getD words (at + i) 0) 256 low, next)
+      rw (at-place words (at + i) h′, lt-ltb (getD words (at + i) 0) operand w, next)
 
-  pub naming-next : (i n : ℕ) → i < n → at + i < length words → getD words (at + i) 0 ≤ 255 → naming i (n - i) ≡ naming (i + 1) (n - (i + 1))
+  pub naming-next : (i n : ℕ) → i < n → at + i < length words → getD words (at + i) 0 < operand → naming i (n - i) ≡ naming (i + 1) (n - (i + 1))
   naming-next i n h h′ w = let e : n - i ≡ suc (n - (i + 1)) = omega arith in rw e (naming-more i (n - (i + 1)) h′ w)
 
   pub naming-all : (n : ℕ) → n ≤ length words - at → naming 0 (n - 0) ≡ isName n (drop at words)
@@ -70,10 +71,10 @@ module _ (words : Words) (at : ℕ) where
   pub spelled-long : (n : ℕ) → Spelled n → length (take n (drop at words)) ≡ n
   spelled-long n s = length-take-le n (drop at words) (rw length-drop (s .there))
 
-  pub spelled-byte : (n i : ℕ) → Spelled n → i < n → getD words (at + i) 0 % 256 ≡ getD (take n (drop at words)) i 0
+  pub spelled-byte : (n i : ℕ) → Spelled n → i < n → getD words (at + i) 0 % operand ≡ getD (take n (drop at words)) i 0
   spelled-byte n i s h =
       let e : getD (take n (drop at words)) i 0 ≡ getD words (at + i) 0 = getD-take n (drop at words) i 0 h ∙ getD-drop at words i 0 in
-      let low : getD words (at + i) 0 < 256 = rw e at (every-at (take n (drop at words)) i (s .bytes) (rw (spelled-long n s) h)) in
+      let low : getD words (at + i) 0 < operand = rw e at (every-at (take n (drop at words)) i (s .bytes) (rw (spelled-long n s) h)) in
       mod-eq-of-lt low ∙ sym e
 
 -- ONE PART OF A LINE AFTER ANOTHER
@@ -107,10 +108,10 @@ placed-byte d at v s h =
     set-placed (placed d at s) (at + length s) v (rw (length-paste d at s (length s) (omega arith) (omega arith)) h) ∙
     placed-after d at s (v ∷ []) (omega arith)
 
-pub length-line : (name argument : Bytes) → length (emittedLine name argument) ≡ length name + length argument + 2
+pub length-line : (name argument : Bytes) → length (emittedLine name argument) ≡ length name + length argument + lineMarks
 length-line name argument = rw (length-append name (32 ∷ (argument ++ 10 ∷ [])), length-append argument (10 ∷ [])) (omega arith)
 
-module _ (d name argument : Bytes) (at : ℕ) (h : at + (length name + length argument + 2) ≤ length d) where
+module _ (d name argument : Bytes) (at : ℕ) (h : at + (length name + length argument + lineMarks) ≤ length d) where
   gapped : set (placed d at name) (at + length name) 32 ≡ placed d at (name ++ 32 ∷ [])
   gapped = placed-byte d at 32 name (omega arith)
 
@@ -130,7 +131,7 @@ module _ (d name argument : Bytes) (at : ℕ) (h : at + (length name + length ar
   -- name, byte 32, argument, byte 10, each after the other
   pub line-placed :
       set (placed (set (placed d at name) (at + length name) 32) (at + length name + 1) argument) (at + length name + 1 + length argument) 10 ≡
-      paste d at (emittedLine name argument) (length name + length argument + 2)
+      paste d at (emittedLine name argument) (length name + length argument + lineMarks)
   line-placed =
       rw (
         gapped,
@@ -141,7 +142,7 @@ module _ (d name argument : Bytes) (at : ℕ) (h : at + (length name + length ar
         length-line name argument,
       )
 
-pub line-written : (d name argument : Bytes) (at n : ℕ) → length name ≡ n → at + (n + length argument + 2) ≤ length d →
+pub line-written : (d name argument : Bytes) (at n : ℕ) → length name ≡ n → at + (n + length argument + lineMarks) ≤ length d →
     set (paste (set (paste d at name n) (at + n) 32) (at + n + 1) argument (length argument)) (at + n + 1 + length argument) 10 ≡
-    paste d at (emittedLine name argument) (n + length argument + 2)
+    paste d at (emittedLine name argument) (n + length argument + lineMarks)
 line-written d name argument at n e h = rw (← e) (line-placed d name argument at (rw e h))

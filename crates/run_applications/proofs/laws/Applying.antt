@@ -23,7 +23,7 @@ use Rattle.run_actions.specs.declared.registers.Next.the-variants.{Onward, Stop
 use Rattle.run_code_places.specs.declared.CodePlace.{CodePlace}
 use Rattle.run_applications.specs.declared.Stored.the-variants.{Before, Wrong}
 use Rattle.answers.specs.Numbers.{endingNumber}
-use Rattle.run_actions.specs.States.{Memory, memory, frameWord, localAt, Held, countsIn, ledgerOf, roomOf, Outcomes, HasFrame, HasValues, wordsIn}
+use Rattle.run_actions.specs.States.{Memory, memory, frameWord, localAt, Held, countsIn, ledgerOf, memoryRoom, Outcomes, HasFrame, HasValues, wordsIn}
 use Rattle.run_actions.specs.States.{wordsBelow, withWord, begun}
 use Rattle.run_actions.proofs.laws.Frames.{word-set, word-kept, waiting-kept, counts-kept}
 use Rattle.run_applications.specs.Storing.{Stores}
@@ -75,12 +75,12 @@ module _ (words : Words) (allowance : ℕ) (g : Registers) (m n : Memory) (r : R
   pub stopping : (tocome : Outcomes) (bound : ℕ) (ending : Ending) (function : ℕ) (h : Registers) → 0 < bound →
       tocome ≡ stop (endingNumber ending) function (ledgerOf allowance h n) →
       h .r ≡ g .r → h .emitted ≡ g .emitted → n .input ≡ m .input → n .output ≡ m .output → n .«record» ≡ m .«record» →
-      SimulatesBelow words allowance (returning (roomOf m) allowance words g m tocome) bound g m (Stopped h ending function) n
+      SimulatesBelow words allowance (returning (memoryRoom m) allowance words g m tocome) bound g m (Stopped h ending function) n
   stopping tocome bound ending function h b e er ee ei eo ej =
       record {
         simulates =
             record {
-              same = rw e (waiting-stop (roomOf m) allowance words (g .frame) (m .frames) (m .values) _ _ _);
+              same = rw e (waiting-stop (memoryRoom m) allowance words (g .frame) (m .frames) (m .values) _ _ _);
               invariant = record { below = rw (er, eo) (r .room .written .below); logged = rw (ee, ej) (r .room .written .logged) };
               room = rw (ei, eo, ej);
               beyond = λ old b. rw (ee, ej) b;
@@ -214,7 +214,7 @@ module _ (words : Words) (allowance place stores stored : ℕ) (g : Registers) (
                     sub-self (g .p .0),
                     counted,
                   )
-                  (waiting-same (roomOf Before-start) allowance words frames frames′ values values′ k (sym kept) (sym (s .below)) _);
+                  (waiting-same (memoryRoom Before-start) allowance words frames frames′ values values′ k (sym kept) (sym (s .below)) _);
               invariant =
                   record {
                     ready =

@@ -24,7 +24,7 @@ use Rattle.run_actions.specs.declared.registers.Registers.{Registers}
 use Rattle.answers.specs.declared.Ending.the-variants.{AllowanceSpent, FramesFull, NoInstruction, NoSentenceFits}
 use Rattle.run_actions.specs.declared.registers.Next.{Next}
 use Rattle.run_actions.specs.declared.registers.Next.the-variants.{Onward, Stopped}
-use Rattle.run_actions.specs.States.{Memory, memory, frameWord, countsIn, countedIn, localAt, localOf, Held, stacksOf, ledgerOf, roomOf, Outcomes}
+use Rattle.run_actions.specs.States.{Memory, memory, frameWord, countsIn, countedIn, localAt, localOf, Held, stacksOf, ledgerOf, memoryRoom, Outcomes}
 use Rattle.run_actions.specs.States.{HasFrame, crowdedAt, wordsFor, wordsIn, wordsBelow, withWord, callingFrom}
 use Rattle.run_actions.proofs.laws.Frames.{words-stored, stored-length, stored-there, word-set, word-kept, held-past, waiting-kept, counts-kept}
 use Rattle.run_actions.proofs.laws.Frames.{counts-counted, counted-words, counted-length, counted-within}
@@ -59,12 +59,12 @@ module _ (words : Words) (allowance number : ℕ) (g : Registers) (m : Memory) w
 
   -- its application comes next if it is declared; if it isn't, no instruction comes at no place of the code
   called-there : (declared : Bool) →
-      whereThere (lent (roomOf m)) declared (ledgerOf allowance g m)
-      (entering (roomOf m) allowance words (suc (g .frame)) number (stacksOf g m) (ledgerOf allowance g m)) ≡
-      pick declared (outcomeOfApplication (roomOf m) allowance words (calledIn (g .frame) (length words) number g) m)
-      (outcomeOfActions (roomOf m) allowance words (calledIn (g .frame) (length words) number g) m)
+      whereThere (lent (memoryRoom m)) declared (ledgerOf allowance g m)
+      (entering (memoryRoom m) allowance words (suc (g .frame)) number (stacksOf g m) (ledgerOf allowance g m)) ≡
+      pick declared (outcomeOfApplication (memoryRoom m) allowance words (calledIn (g .frame) (length words) number g) m)
+      (outcomeOfActions (memoryRoom m) allowance words (calledIn (g .frame) (length words) number g) m)
   unfolding process
-  called-there true = entering-paid (roomOf m) allowance words (suc (g .frame)) number (stacksOf g m) (ledgerOf allowance g m) (omega arith)
+  called-there true = entering-paid (memoryRoom m) allowance words (suc (g .frame)) number (stacksOf g m) (ledgerOf allowance g m) (omega arith)
   called-there false = rw (actions-none words (length words) (omega arith))
 
   -- a tail call is an application in the caller's frame
@@ -74,7 +74,7 @@ module _ (words : Words) (allowance number : ℕ) (g : Registers) (m : Memory) w
       record {
         simulates =
             record {
-              same = ap (waiting (roomOf m) allowance words (g .frame) (m .frames) (m .values))
+              same = ap (waiting (memoryRoom m) allowance words (g .frame) (m .frames) (m .values))
                   (called-there (isDeclared (functionsIn words) number));
               invariant = record {
                 ready = called-ready (g .frame) (length words) (m .frames) (r .room .frame .framed) (r .room .frame .frameRoom) refl refl (r .waits)
@@ -91,8 +91,8 @@ module _ (words : Words) (allowance number : ℕ) (g : Registers) (m : Memory) w
 abbrev ChoiceSimulates : Words → ℕ → ℕ → Choice → Registers → Memory → Next → Memory → Type 0
 ChoiceSimulates words allowance number choice g m next n =
     SimulatesBelow words allowance
-    (returning (roomOf m) allowance words g m
-    (ranChoice (lent (roomOf m)) (functionsIn words) (entering (roomOf m) allowance words) (suc (g .frame)) number choice (stacksOf g m)
+    (returning (memoryRoom m) allowance words g m
+    (ranChoice (lent (memoryRoom m)) (functionsIn words) (entering (memoryRoom m) allowance words) (suc (g .frame)) number choice (stacksOf g m)
     (ledgerOf allowance g m)))
     (measureBelow (length words) allowance g m + suc (suc (length words)))
     g m next n
@@ -141,10 +141,10 @@ module _ (words : Words) (allowance number : ℕ) (g : Registers) (m : Memory) w
 
   module _ (may : Payable words allowance number g) where
     paying : (choice : Choice) → choice ≡ Chosen words number g (m .input) →
-        ranPaid (lent (roomOf m)) (functionsIn words) (entering (roomOf m) allowance words) (suc (g .frame)) number (stacksOf g m)
+        ranPaid (lent (memoryRoom m)) (functionsIn words) (entering (memoryRoom m) allowance words) (suc (g .frame)) number (stacksOf g m)
         (ledgerOf allowance g m)
         (pay number (ledgerOf allowance g m .tally)) ≡
-        ranChoice (lent (roomOf m)) (functionsIn words) (entering (roomOf m) allowance words) (suc (g .frame)) number choice (stacksOf g m)
+        ranChoice (lent (memoryRoom m)) (functionsIn words) (entering (memoryRoom m) allowance words) (suc (g .frame)) number choice (stacksOf g m)
         (ledgerOf allowance (paidOf g) (countedFor number m))
     paying choice e =
         rw (
@@ -201,8 +201,9 @@ module _ (words : Words) (allowance number : ℕ) (g : Registers) (m : Memory) w
           simulates =
               record {
                 same =
-                    ap (waiting (roomOf m) allowance words (g .frame) (m .frames) (m .values)) (paying choice e) ∙
-                    waiting-same (roomOf m) allowance words (m .frames) (countedIn number (m .frames)) (m .values) (m .values) (g .frame) below refl _
+                    ap (waiting (memoryRoom m) allowance words (g .frame) (m .frames) (m .values)) (paying choice e) ∙
+                    waiting-same (memoryRoom m) allowance words (m .frames) (countedIn number (m .frames)) (m .values) (m .values) (g .frame) below
+                    refl _
                     ∙
                     d .simulates .same;
                 invariant = d .simulates .invariant;
@@ -321,8 +322,8 @@ module _ (words : Words) (allowance number : ℕ) (g : Registers) (m : Memory) w
   undeclared tail e u = stopping words allowance g m m (u .ready) _ _ NoInstruction 0 g (omega arith) (stops tail) refl refl refl refl refl
     where
       stops : (tail : Bool) →
-          perform (lent (roomOf m)) (functionsIn words) (entering (roomOf m) allowance words)
-          (continuationAt (roomOf m) allowance words (g .frame) (g .at .0))
+          perform (lent (memoryRoom m)) (functionsIn words) (entering (memoryRoom m) allowance words)
+          (continuationAt (memoryRoom m) allowance words (g .frame) (g .at .0))
           (suc (g .frame))
           (pick tail (tailCall number) (call number)) (localOf g m) (stacksOf g m) (ledgerOf allowance g m) ≡
           stop noInstruction 0 (ledgerOf allowance g m)
@@ -352,7 +353,7 @@ module _ (words : Words) (allowance number : ℕ) (g : Registers) (input output 
       (memory input output «record» above values)
   call-enters declared h l above there sized counted same empty u =
       let k = g .frame in
-      let room = roomOf Caller in
+      let room = memoryRoom Caller in
       let r = u .ready in
       let application = entering room allowance words (suc (suc k)) number (stacksOf g Caller) (ledgerOf allowance g Caller) in
       let entered = entering-paid room allowance words (suc (suc k)) number (stacksOf g Caller) (ledgerOf allowance g Caller) (omega arith) in
@@ -382,10 +383,10 @@ module _ (words : Words) (allowance number : ℕ) (g : Registers) (input output 
       -- a call that is declared, paid for and has a frame enters its function
       opens : {n : ℕ} → isDeclared (functionsIn words) number ≡ true → allowance - g .steps ≡ suc n → ltb 256 (suc (suc (g .frame))) ≡ false →
           length (drop (g .p .0) input) ≡ length input - g .p .0 → length input - g .p .0 - (g .q .0 - g .p .0) ≡ length input - g .q .0 →
-          outcomeOfAction (roomOf Caller) allowance words (call number) (g .at .0) g Caller ≡
-          waiting (roomOf Caller) allowance words (g .frame) frames values
-          (andThen (entering (roomOf Caller) allowance words (suc (suc (g .frame))) number (stacksOf g Caller) (ledgerOf allowance g Caller))
-          (λ s l. continuationAt (roomOf Caller) allowance words (g .frame) (g .at .0) (localAt (g .frame) frames values)
+          outcomeOfAction (memoryRoom Caller) allowance words (call number) (g .at .0) g Caller ≡
+          waiting (memoryRoom Caller) allowance words (g .frame) frames values
+          (andThen (entering (memoryRoom Caller) allowance words (suc (suc (g .frame))) number (stacksOf g Caller) (ledgerOf allowance g Caller))
+          (λ s l. continuationAt (memoryRoom Caller) allowance words (g .frame) (g .at .0) (localAt (g .frame) frames values)
           (returned (length input - g .q .0) s)
           l))
       opens e e′ e″ long selected = rw (e, e′, e″, long, selected)

@@ -13,7 +13,7 @@ use Rattle.meaning.specs.Packing.{Words}
 use Rattle.meaning_agreeing.proofs.laws.Depth.{enter-step}
 use Rattle.run_actions.specs.declared.registers.Registers.{Registers}
 use Rattle.run_actions.specs.declared.registers.Next.the-variants.{Onward}
-use Rattle.run_actions.specs.States.{Memory, wordsIn, wordsBelow, frameWord, localAt, Held, stacksOf, Ledgers, ledgerOf, roomOf, Outcomes}
+use Rattle.run_actions.specs.States.{Memory, wordsIn, wordsBelow, frameWord, localAt, Held, stacksOf, Ledgers, ledgerOf, memoryRoom, Outcomes}
 use Rattle.run_applications.specs.Waiting.{functionsIn, entering, waiting, outcomeFrom, Waits, measureWaiting, backIn, leftFrom, leftBy}
 use Rattle.run_applications.specs.Waiting.{calledIn, recoveredBy}
 
@@ -103,8 +103,8 @@ module _ (room : Room) (allowance : ℕ) (words : Words) where
 -- the end of an application
 pub waiting-done : (allowance : ℕ) (words : Words) (k : ℕ) (g : Registers) (m : Memory) → g .callee ≡ 0 → g .p .0 ≤ length (m .input) →
     ((i : ℕ) → i < k → Waits (length (m .input)) i (m .frames)) →
-    waiting (roomOf m) allowance words k (m .frames) (m .values) (done (stacksOf g m) (ledgerOf allowance g m)) ≡
-    outcomeFrom (roomOf m) allowance words (leftFrom k g (m .frames)) m
+    waiting (memoryRoom m) allowance words k (m .frames) (m .values) (done (stacksOf g m) (ledgerOf allowance g m)) ≡
+    outcomeFrom (memoryRoom m) allowance words (leftFrom k g (m .frames)) m
 unfolding waiting
 waiting-done allowance words zero g m idle h waits = refl
 waiting-done allowance words (suc k) g m idle h waits =

@@ -6,7 +6,7 @@ use mathlib.Core.Path.{_≡_, _∙_}
 use lib.ListN.{length, getD, set}
 use lib.Seq.{paste, paste-zero, paste-suc}
 use Rattle.meaning.specs.Choice.{Bytes}
-use Rattle.run_cells.specs.Copied.{copied, CopiedFew}
+use Rattle.run_cells.specs.Copied.{half, quarter, copied, CopiedFew}
 
 -- one byte more of a copy
 pub pasted-one : (now to from : Bytes) (at i : ℕ) → now ≡ paste to at from i → at + length from ≤ length to → i < length from →
@@ -24,7 +24,7 @@ module _ (to from : Bytes) (at : ℕ) (room : at + length from ≤ length to) wh
 
   -- the three parts of a short copy
   pub pasted-few : {four two one : ℕ} {first second last : Bytes} →
-      CopiedFew 4 to at from 0 four first → CopiedFew 2 first at from four two second → CopiedFew 1 second at from (four + two) one last →
+      CopiedFew half to at from 0 four first → CopiedFew quarter first at from four two second → CopiedFew 1 second at from (four + two) one last →
       last ≡ paste to at from (length from)
   pasted-few {four} {two} {one} f t o =
       let first = f .cells ∙ pasted-on four _ 0 four (paste-zero to at from) (omega arith) (omega arith) in

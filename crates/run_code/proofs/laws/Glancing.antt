@@ -16,11 +16,11 @@ use Rattle.meaning.specs.Machine.{process, ranChoice}
 use Rattle.meaning.specs.Runs.{lent, loaded, runUnder, runLent}
 use Rattle.meaning.specs.Packing.{Words, unpackSentences}
 use Rattle.meaning.specs.Leaving.{afterRun}
-use Rattle.meaning.specs.Leaving.{roomOf as roomOfCells}
+use Rattle.meaning.specs.Leaving.{roomOf}
 use Rattle.run_actions.specs.declared.registers.Registers.{Registers}
 use Rattle.answers.specs.declared.Ending.the-variants.{Finished, NoSentenceFits}
 use Rattle.run_actions.specs.declared.registers.Next.the-variants.{Done, Stopped}
-use Rattle.run_actions.specs.States.{Memory, memory, countsIn, countedIn, ledgerOf, roomOf, Outcomes}
+use Rattle.run_actions.specs.States.{Memory, memory, countsIn, countedIn, ledgerOf, memoryRoom, Outcomes}
 use Rattle.run_actions.proofs.laws.Frames.{counts-counted}
 use Rattle.run_applications.specs.Waiting.{countIn, functionsIn, entering}
 use Rattle.run_applications.proofs.laws.Waiting.{entering-paid}
@@ -66,12 +66,12 @@ module _ (words : Words) (start : ℕ) (text input output «record» : Bytes) (f
   -- the run is what comes of the choice for the text, its step paid
   chosen-runs : (allowance : ℕ) (choice : Choice) → 0 < allowance →
       chooseFrom (unpackSentences 0 (drop (getD words start 0) words)) text ≡ choice →
-      runUnder (lent (roomOf Memory-then)) (functionsIn words) start text allowance tt ≡
-      ranChoice (lent (roomOf Memory-then)) (functionsIn words) (entering (roomOf Memory-then) allowance words) 1 start choice (loaded text)
+      runUnder (lent (memoryRoom Memory-then)) (functionsIn words) start text allowance tt ≡
+      ranChoice (lent (memoryRoom Memory-then)) (functionsIn words) (entering (memoryRoom Memory-then) allowance words) 1 start choice (loaded text)
       (ledgerOf allowance (Ended (length input)) Memory-then)
   chosen-runs zero choice h e = absurd (omega arith)
   chosen-runs (suc n) choice h e =
-      entering-paid (roomOf Memory-then) (suc n) words 1 start (loaded text) (record { tally = fresh (suc n); mark = tt }) (omega arith) ∙
+      entering-paid (memoryRoom Memory-then) (suc n) words 1 start (loaded text) (record { tally = fresh (suc n); mark = tt }) (omega arith) ∙
       rw (
         code-at words (b .counted) start (b .positive) (b .within),
         take-length text,
@@ -83,7 +83,7 @@ module _ (words : Words) (start : ℕ) (text input output «record» : Bytes) (f
 
   -- a sentence that passes over the text and ends
   drop-runs : (allowance : ℕ) →
-      ranChoice (lent (roomOf Memory-then)) (functionsIn words) (entering (roomOf Memory-then) allowance words) 1 start
+      ranChoice (lent (memoryRoom Memory-then)) (functionsIn words) (entering (memoryRoom Memory-then) allowance words) 1 start
       (chosen 0 [] (go (record { register = whole; add = 0; back = 0 }) ∷ [])) (loaded text)
       (ledgerOf allowance (Ended (length input)) Memory-then) ≡
       done (record { input = []; selected = 0; output = [] }) (ledgerOf allowance (Ended (length input)) Memory-then)
@@ -98,16 +98,16 @@ module _ (words : Words) (start : ℕ) (text input output «record» : Bytes) (f
 
     pub ends-unfitted : Chosen ≡ chosenNone 0 →
         Leaves (endedWith NoSentenceFits start) (countsIn (countedIn start frames)) (cells (clearedFrom 0 input) (clearedFrom 0 output) «record»)
-        (afterRun (runLent (roomOfCells (cells input output «record»)) (functionsIn words) start text allowance) (cells input output «record»))
+        (afterRun (runLent (roomOf (cells input output «record»)) (functionsIn words) start text allowance) (cells input output «record»))
     ends-unfitted e =
-        leaves-end (roomOf Memory-then) allowance words Memory-then (Stopped (Ended (length input)) NoSentenceFits start)
+        leaves-end (memoryRoom Memory-then) allowance words Memory-then (Stopped (Ended (length input)) NoSentenceFits start)
         (cells input output «record») _
         (chosen-runs allowance (chosenNone 0) allowed e) tt (record { below = omega arith; logged = omega arith }) refl refl
 
     pub ends-dropped : Drop Chosen →
         Leaves (endedWith Finished 0) (countsIn (countedIn start frames)) (cells (clearedFrom 0 input) (clearedFrom 0 output) «record»)
-        (afterRun (runLent (roomOfCells (cells input output «record»)) (functionsIn words) start text allowance) (cells input output «record»))
+        (afterRun (runLent (roomOf (cells input output «record»)) (functionsIn words) start text allowance) (cells input output «record»))
     ends-dropped d =
-        leaves-end (roomOf Memory-then) allowance words Memory-then (Done (Ended (length input))) (cells input output «record») _
+        leaves-end (memoryRoom Memory-then) allowance words Memory-then (Done (Ended (length input))) (cells input output «record») _
         (chosen-runs allowance _ allowed (d .same) ∙ drop-runs allowance ∙ rw (drop-length input, sub-self (length input)))
         tt (record { below = omega arith; logged = omega arith }) refl refl

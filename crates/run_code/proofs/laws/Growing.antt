@@ -18,7 +18,7 @@ use Rattle.run_actions.specs.declared.registers.Registers.{Registers}
 use Rattle.run_actions.specs.declared.registers.Next.{Next}
 use Rattle.run_actions.specs.declared.registers.Next.the-variants.{Onward, Done, Stopped, Deeper}
 use Rattle.run_actions.proofs.registers.Next as next-declared
-use Rattle.run_actions.specs.States.{Memory, memory, wordsFor, valuesFor, crowdedAt, wordsBelow, countsIn, roomOf}
+use Rattle.run_actions.specs.States.{Memory, memory, wordsFor, valuesFor, crowdedAt, wordsBelow, countsIn, memoryRoom}
 use Rattle.run_applications.specs.Waiting.{outcomeFrom}
 use Rattle.run_applications.specs.Simulation.{Invariant, NextInvariant, registersIn, Simulates}
 use Rattle.run_turns.specs.Turns.{IsOver}
@@ -76,8 +76,8 @@ deeper-on {words} {allowance} {first} {mid} {last} {m} {n} {l} {g} e follows dee
 module _ (words : Words) (allowance : ℕ) (m : Memory) (input output «record» : Bytes) (frames few : List ℕ) (values all : Bytes)
     (counts : countsIn few ≡ countsIn frames) where
   outcome-ended : (last : Next) → HasEnded last →
-      outcomeFrom (roomOf m) allowance words last (memory input output «record» frames all)
-      ≡ outcomeFrom (roomOf m) allowance words last (memory input output «record» few values)
+      outcomeFrom (memoryRoom m) allowance words last (memory input output «record» frames all)
+      ≡ outcomeFrom (memoryRoom m) allowance words last (memory input output «record» few values)
   outcome-ended (Onward g) ended = absurd ended
   outcome-ended (Done g) ended = rw counts
   outcome-ended (Stopped g ending function) ended = rw counts
@@ -138,16 +138,16 @@ module _ (few rest : List ℕ) (values all : Bytes) (begins : take (length value
           current = held-same few (few ++ rest) (suc (g .frame)) current-there (g .frame) (omega arith) (u .current);
         }
 
-    grown-outcome : outcomeFrom (roomOf (memory input output «record» few values)) allowance words (Onward g)
+    grown-outcome : outcomeFrom (memoryRoom (memory input output «record» few values)) allowance words (Onward g)
         (memory input output «record» few values) ≡
-        outcomeFrom (roomOf (memory input output «record» few values)) allowance words (Onward g) (memory input output «record» (few ++ rest) all)
+        outcomeFrom (memoryRoom (memory input output «record» few values)) allowance words (Onward g) (memory input output «record» (few ++ rest) all)
     grown-outcome =
         rw (
           grown-counts,
           local-same few (few ++ rest) (suc (g .frame)) current-there values all (grown-values (suc (g .frame)) stored-there)
               (g .frame) (omega arith),
         )
-        (waiting-same (roomOf (memory input output «record» few values)) allowance words few (few ++ rest) values all (g .frame) waiting-there
+        (waiting-same (memoryRoom (memory input output «record» few values)) allowance words few (few ++ rest) values all (g .frame) waiting-there
         (grown-values (g .frame) (omega (arith, stored-there))) _)
 
     -- followed to its end there, and the counts brought back

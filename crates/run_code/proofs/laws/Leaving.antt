@@ -17,13 +17,13 @@ use Rattle.meaning.specs.Machine.{isDeclared}
 use Rattle.meaning.specs.Runs.{Room, lent, loaded, runUnder, textOf, runLent}
 use Rattle.meaning.specs.Packing.{Words}
 use Rattle.meaning.specs.Leaving.{Cells, zeros, refusedRun, afterRun, leaving}
-use Rattle.meaning.specs.Leaving.{roomOf as roomOfCells}
+use Rattle.meaning.specs.Leaving.{roomOf}
 use Rattle.run_actions.specs.declared.registers.Registers.{Registers}
 use Rattle.answers.specs.declared.Ending.{Ending}
 use Rattle.run_actions.specs.declared.registers.Next.{Next}
 use Rattle.run_actions.specs.declared.registers.Next.the-variants.{Onward, Done, Stopped, Deeper}
 use Rattle.answers.specs.Numbers.{endingNumber}
-use Rattle.run_actions.specs.States.{firstFrames, wordsFor, valuesFor, Memory, memory, Held, countsIn, stacksOf, roomOf, Outcomes}
+use Rattle.run_actions.specs.States.{firstFrames, wordsFor, valuesFor, Memory, memory, Held, countsIn, stacksOf, memoryRoom, Outcomes}
 use Rattle.run_applications.specs.Waiting.{soundIn, functionsIn, waiting, outcomeFrom}
 use Rattle.run_applications.specs.Simulation.{Invariant, NextInvariant, registersIn, Simulates}
 use Rattle.run_code.specs.Following.{HasEnded}
@@ -110,7 +110,7 @@ module _ (room : Room) (allowance : ℕ) (words : Words) (m : Memory) where
   counts-end (Stopped g ending function) o = refl
 
   -- the cells after the stacks are cleared
-  cells-end : (last : Next) (before : Cells) → HasEnded last → NextInvariant allowance last m → roomOf m ≡ roomOfCells before →
+  cells-end : (last : Next) (before : Cells) → HasEnded last → NextInvariant allowance last m → memoryRoom m ≡ roomOf before →
       drop (registersIn last .emitted) (m .«record») ≡ drop (registersIn last .emitted) (before .«record») →
       cells (clearedFrom 0 (m .input)) (clearedFrom (reportedOf last .text) (m .output)) (m .«record») ≡
       afterRun (resultOf (textOf (outcomeFrom room allowance words last m))) before .cells
@@ -138,7 +138,7 @@ module _ (room : Room) (allowance : ℕ) (words : Words) (m : Memory) where
 
   pub leaves-end : (last : Next) (before : Cells) (o : Outcomes) → o ≡ outcomeFrom room allowance words last m → HasEnded last →
       NextInvariant allowance last m →
-      roomOf m ≡ roomOfCells before → drop (registersIn last .emitted) (m .«record») ≡ drop (registersIn last .emitted) (before .«record») →
+      memoryRoom m ≡ roomOf before → drop (registersIn last .emitted) (m .«record») ≡ drop (registersIn last .emitted) (before .«record») →
       Leaves (reportedOf last) (countsIn (m .frames)) (cells (clearedFrom 0 (m .input)) (clearedFrom (reportedOf last .text) (m .output))
       (m .«record»))
       (afterRun (resultOf (textOf o)) before)
@@ -181,7 +181,7 @@ module _ (text input input′ : Bytes) (l : Loaded text input input′) where
 
     -- what the run comes to
     abbrev pub Whole : Outcomes
-    Whole = runUnder (lent (roomOf Start)) (functionsIn words) start text allowance tt
+    Whole = runUnder (lent (memoryRoom Start)) (functionsIn words) start text allowance tt
 
     pub invariant-start : length frames ≡ wordsFor firstFrames → length values ≡ valuesFor firstFrames → countsIn frames ≡ uncounted → Held 0 frames →
         Invariant allowance Beginning Start
@@ -210,7 +210,7 @@ module _ (text input input′ : Bytes) (l : Loaded text input input′) where
     starting invariant none declared =
         record {
           same =
-              entering-paid (roomOf Start) allowance words 1 start (loaded text) (record { tally = fresh allowance; mark = tt }) (omega arith) ∙
+              entering-paid (memoryRoom Start) allowance words 1 start (loaded text) (record { tally = fresh allowance; mark = tt }) (omega arith) ∙
               rw (declared, loaded-stacks, sub-zero allowance, none);
           invariant = invariant;
           room = refl;
@@ -221,17 +221,17 @@ module _ (text input input′ : Bytes) (l : Loaded text input input′) where
     pub steps-allowed : (last : Next) (m : Memory) → Simulates words allowance Whole Beginning Start last m → HasEnded last →
         registersIn last .steps ≤ allowance
     steps-allowed last m simulates over =
-        let made = ap (λ (o : Outcomes). countedOf o .tally .steps) (simulates .same) ∙ steps-end (roomOf Start) allowance words m last over in
-        omega (arith, made, from-spent (lent (roomOf Start)) (functionsIn words) start text allowance tt)
+        let made = ap (λ (o : Outcomes). countedOf o .tally .steps) (simulates .same) ∙ steps-end (memoryRoom Start) allowance words m last over in
+        omega (arith, made, from-spent (lent (memoryRoom Start)) (functionsIn words) start text allowance tt)
 
     -- and leaves what it should when it has been followed to its end
     pub ending : (last : Next) (m : Memory) → Simulates words allowance Whole Beginning Start last m → HasEnded last →
         Leaves (reportedOf last) (countsIn (m .frames)) (cells (clearedFrom 0 (m .input)) (clearedFrom (reportedOf last .text) (m .output))
         (m .«record»))
-        (afterRun (runLent (roomOfCells (cells input output «record»)) (functionsIn words) start text allowance) (cells input output «record»))
+        (afterRun (runLent (roomOf (cells input output «record»)) (functionsIn words) start text allowance) (cells input output «record»))
     ending last m simulates over =
         rw (l .sized) at
-        (leaves-end (roomOf Start) allowance words m last (cells input output «record») Whole (simulates .same) over (simulates .invariant)
+        (leaves-end (memoryRoom Start) allowance words m last (cells input output «record») Whole (simulates .same) over (simulates .invariant)
         (simulates .room ∙ rw (l .sized))
         (simulates .beyond «record» refl))
 
@@ -254,5 +254,5 @@ module _ (words : Words) (start : ℕ) (text : Bytes) (before : Cells) (allowanc
       leaving-long l = rw (unpacked words, sound, declared, lt-leb (length text) (length (before .stackIn)) l)
 
       pub leaving-runs : length text ≤ length (before .stackIn) →
-          leaving words start text before allowance ≡ afterRun (runLent (roomOfCells before) (functionsIn words) start text allowance) before
+          leaving words start text before allowance ≡ afterRun (runLent (roomOf before) (functionsIn words) start text allowance) before
       leaving-runs l = rw (unpacked words, sound, declared, le-leb (length text) (length (before .stackIn)) l)

@@ -14,13 +14,28 @@ use Rattle.meaning.specs.Choice.{pick}
 use Rattle.meaning.specs.Angles.{plus, minus}
 use Rattle.meaning.specs.Instructions.{Action, go, select, out, outC, outV, beginSeq, useSeq, call, tailCall, unknownAction}
 use Rattle.meaning.specs.Packing.{Words, numberIn, firstIn, secondIn, thirdIn, lengthOf, operationOf, spanAction, computeOf, emissionOf}
-use Rattle.meaning.specs.Packing.{unpackActions}
+use Rattle.meaning.specs.Packing.{unpackActions, useSeqNumber}
 use Rattle.run_decoding.specs.declared.Instruction.{Instruction}
 use Rattle.run_decoding.specs.declared.Write.the-variants.{Out, OutC, OutV}
 use Rattle.run_decoding.specs.declared.Instruction.the-variants.{Go, Select, Write as Writes, BeginSeq, UseSeq, Call as Calls, Emit, Compute}
 use Rattle.run_decoding.specs.declared.Instruction.the-variants.{End, Unknown}
 use Rattle.run_decoding.specs.Decoded.{callIn, computationIn, instructionIn, Numbered, WordTaken, actionsMeant}
 use Rattle.meaning.proofs.laws.Remaining.{at-place, past-end}
+
+-- the instruction of a word, by the twelve numbers in the order in which they are asked
+abbrev instructionBy : ℕ → Bool → Bool → Bool → Bool → Bool → Bool → Bool → Bool → Bool → Bool → Bool → Bool → Instruction
+instructionBy w b₁₅ b₁₄ b₅ b₆ b₇ b₈ b₉ b₁₀ b₁₁ b₁₂ b₁₃ b₂₁ =
+    pick b₁₅ End
+    (pick b₁₄ (Emit (firstIn w))
+    (pick b₅ (Go w)
+    (pick b₆ (Select w)
+    (pick b₇ (Writes Out)
+    (pick b₈ (Writes (OutC (firstIn w)))
+    (pick b₉ (Writes (OutV (firstIn w)))
+    (pick b₁₀ BeginSeq
+    (pick b₁₁ UseSeq
+    (pick b₁₂ (Calls (callIn false w))
+    (pick b₁₃ (Calls (callIn true w)) (pick b₂₁ (computationIn (firstIn w)) Unknown)))))))))))
 
 module _ (w : ℕ) (ws : Words) where
   abbrev Later : List Action
@@ -33,7 +48,7 @@ module _ (w : ℕ) (ws : Words) where
   computation-asked false true = refl
   computation-asked false false = refl
 
-  -- by the twelve numbers in the order in which they are asked
+  -- by the same numbers
   asked : (b₁₅ b₁₄ b₅ b₆ b₇ b₈ b₉ b₁₀ b₁₁ b₁₂ b₁₃ b₂₁ : Bool) →
       pick b₁₅ []
       (pick b₁₄ (emissionOf (firstIn w) ws ∷ unpackActions (firstIn w) ws)
@@ -47,20 +62,7 @@ module _ (w : ℕ) (ws : Words) where
       (pick b₁₂ (call (w / 256))
       (pick b₁₃ (tailCall (w / 256)) (pick b₂₁ (computeOf (operationOf (firstIn w))) unknownAction)))))))))
       ∷ Later)) ≡
-      actionsMeant
-      (pick b₁₅ End
-      (pick b₁₄ (Emit (firstIn w))
-      (pick b₅ (Go w)
-      (pick b₆ (Select w)
-      (pick b₇ (Writes Out)
-      (pick b₈ (Writes (OutC (firstIn w)))
-      (pick b₉ (Writes (OutV (firstIn w)))
-      (pick b₁₀ BeginSeq
-      (pick b₁₁ UseSeq
-      (pick b₁₂ (Calls (callIn false w))
-      (pick b₁₃ (Calls (callIn true w)) (pick b₂₁ (computationIn (firstIn w)) Unknown)))))))))))
-      )
-      ws
+      actionsMeant (instructionBy w b₁₅ b₁₄ b₅ b₆ b₇ b₈ b₉ b₁₀ b₁₁ b₁₂ b₁₃ b₂₁) ws
   asked true b₁₄ b₅ b₆ b₇ b₈ b₉ b₁₀ b₁₁ b₁₂ b₁₃ b₂₁ = refl
   asked false true b₅ b₆ b₇ b₈ b₉ b₁₀ b₁₁ b₁₂ b₁₃ b₂₁ = refl
   asked false false true b₆ b₇ b₈ b₉ b₁₀ b₁₁ b₁₂ b₁₃ b₂₁ = refl
@@ -89,18 +91,7 @@ module _ (w : ℕ) where
   computation-used false false e = let z : _≡_ {A = ℕ} 0 1 = cc in absurd (omega arith)
 
   used : (b₁₅ b₁₄ b₅ b₆ b₇ b₈ b₉ b₁₀ b₁₁ b₁₂ b₁₃ b₂₁ : Bool) →
-      pick b₁₅ End
-      (pick b₁₄ (Emit (firstIn w))
-      (pick b₅ (Go w)
-      (pick b₆ (Select w)
-      (pick b₇ (Writes Out)
-      (pick b₈ (Writes (OutC (firstIn w)))
-      (pick b₉ (Writes (OutV (firstIn w)))
-      (pick b₁₀ BeginSeq
-      (pick b₁₁ UseSeq
-      (pick b₁₂ (Calls (callIn false w))
-      (pick b₁₃ (Calls (callIn true w)) (pick b₂₁ (computationIn (firstIn w)) Unknown)))))))))))
-      ≡ UseSeq → b₁₁ ≡ true
+      instructionBy w b₁₅ b₁₄ b₅ b₆ b₇ b₈ b₉ b₁₀ b₁₁ b₁₂ b₁₃ b₂₁ ≡ UseSeq → b₁₁ ≡ true
   used true b₁₄ b₅ b₆ b₇ b₈ b₉ b₁₀ b₁₁ b₁₂ b₁₃ b₂₁ e = let z : _≡_ {A = ℕ} 0 1 = cc in absurd (omega arith)
   used false true b₅ b₆ b₇ b₈ b₉ b₁₀ b₁₁ b₁₂ b₁₃ b₂₁ e = let z : _≡_ {A = ℕ} 0 1 = cc in absurd (omega arith)
   used false false true b₆ b₇ b₈ b₉ b₁₀ b₁₁ b₁₂ b₁₃ b₂₁ e = let z : _≡_ {A = ℕ} 0 1 = cc in absurd (omega arith)
@@ -115,7 +106,7 @@ module _ (w : ℕ) where
   used false false false false false false false false false false false true e = computation-used (eqb (firstIn w) 0) (eqb (firstIn w) 1) e
   used false false false false false false false false false false false false e = let z : _≡_ {A = ℕ} 0 1 = cc in absurd (omega arith)
 
-pub use-numbered : (words : Words) (at : ℕ) → at < length words → instructionIn (getD words at 0) ≡ UseSeq → Numbered words at 11
+pub use-numbered : (words : Words) (at : ℕ) → at < length words → instructionIn (getD words at 0) ≡ UseSeq → Numbered words at useSeqNumber
 use-numbered words at h e =
     let w = getD words at 0 in
     let n = numberIn w in

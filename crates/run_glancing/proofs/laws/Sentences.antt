@@ -11,7 +11,8 @@ use borrow.Author.Tests.{le-leb}
 use Rattle.meaning.specs.Choice.{Bytes}
 use Rattle.meaning.specs.Instructions.{whole, go, ends}
 use Rattle.meaning.specs.Matching.{Checked, failed, Found, foundAt, foundNone, foundWrong, checkAll, search, chosenNone}
-use Rattle.meaning.specs.Packing.{Words, metricIn, bodyIn, sentencesEnd, numberIn, unpackTests, unpackStores, unpackActions}
+use Rattle.meaning.specs.Packing.{Words, metricIn, bodyIn, countsWord, endsNumber, sentencesEnd, numberIn, unpackTests, unpackStores, unpackActions}
+use Rattle.code_numbers.specs.Numbers.{sentenceHead}
 use Rattle.meaning.proofs.laws.Remaining.{at-place}
 use Rattle.run_searching.proofs.laws.Places.{search-none}
 use Rattle.run_matching.specs.Matched.{tried}
@@ -34,21 +35,21 @@ out-at-each true test first count found many e fails = e ∙ search-none test co
 out-at-each false test first count found many e fails = tt
 
 -- the sentence `e1 =` fits every field at place 0
-fits-any : (ws : Words) (field : Bytes) → tried (some (ends 0 0)) 131072 ws field ≡ foundAt 0
+fits-any : (ws : Words) (field : Bytes) → tried (some (ends 0 0)) (countsWord 0 0 2) ws field ≡ foundAt 0
 unfolding search checkAll unpackTests
 fits-any ws field = rw (le-leb 0 (length field) (omega arith))
 
 -- it passes over the field and ends
 passes-over : (words : Words) (at : ℕ) → Drops words at →
-    unpackActions 0 (drop (at + 2) words) ≡ go (record { register = whole; add = 0; back = 0 }) ∷ []
+    unpackActions 0 (drop (at + sentenceHead) words) ≡ go (record { register = whole; add = 0; back = 0 }) ∷ []
 unfolding unpackActions
 passes-over words at d =
-    let next : at + 2 + 1 ≡ at + 3 = omega arith in
+    let next : at + sentenceHead + 1 ≡ at + (sentenceHead + 1) = omega arith in
     rw (
-      at-place words (at + 2) (omega (arith, d .there)),
+      at-place words (at + sentenceHead) (omega (arith, d .there)),
       d .passes,
       next,
-      at-place words (at + 3) (omega (arith, d .there)),
+      at-place words (at + (sentenceHead + 1)) (omega (arith, d .there)),
       d .ends,
     )
 
@@ -58,13 +59,13 @@ pub record ChoiceKept (words : Words) (field : Bytes) (at₀ at : ℕ) : Type 0 
 
 module _ (words : Words) (field : Bytes) (at₀ at : ℕ) (c : ChoiceKept words field at₀ at) where
   -- the end of a function that none recovers
-  pub none-left : at < length words → getD words at 0 ≡ 19 → choosing words field at₀ ≡ chosenNone 0
+  pub none-left : at < length words → getD words at 0 ≡ sentencesEnd → choosing words field at₀ ≡ chosenNone 0
   none-left h e = sym (c .same) ∙ choosing-end words field at h (rw e) ∙ rw e
 
   -- a sentence that is out
-  pub passed-over : 2 ≤ length words - at →
-      tried (metricIn (getD words at 0)) (getD words (at + 1) 0) (drop (at + 2) words) field ≡ foundNone →
-      ChoiceKept words field at₀ (at + (2 + bodyIn (getD words (at + 1) 0)))
+  pub passed-over : sentenceHead ≤ length words - at →
+      tried (metricIn (getD words at 0)) (getD words (at + 1) 0) (drop (at + sentenceHead) words) field ≡ foundNone →
+      ChoiceKept words field at₀ (at + (sentenceHead + bodyIn (getD words (at + 1) 0)))
   passed-over h out =
       let first = sentence-first (getD words at 0) _ _ field out in
       record { same = sym (rw out at (choosing-next words field at h first)) ∙ c .same }
@@ -73,11 +74,11 @@ module _ (words : Words) (field : Bytes) (at₀ at : ℕ) (c : ChoiceKept words 
   pub dropped : Drops words at → Drop (choosing words field at₀)
   unfolding unpackStores
   dropped d =
-      let first : numberIn (getD words at 0) ≡ sentencesEnd → ⊥ = rw (d .lengths) (λ e. let n : _≡_ {A = ℕ} 17 19 = e in omega arith) in
-      let start : at + 2 + 0 ≡ at + 2 = omega arith in
+      let first : numberIn (getD words at 0) ≡ sentencesEnd → ⊥ = rw (d .lengths) (λ e. let n : endsNumber ≡ sentencesEnd = e in omega arith) in
+      let start : at + sentenceHead + 0 ≡ at + sentenceHead = omega arith in
       record {
         same =
             sym (c .same) ∙
-            rw (d .lengths, d .counts, fits-any (drop (at + 2) words) field, start, start, passes-over words at d) at
+            rw (d .lengths, d .counts, fits-any (drop (at + sentenceHead) words) field, start, start, passes-over words at d) at
             (choosing-next words field at (omega (arith, d .there)) first);
       }

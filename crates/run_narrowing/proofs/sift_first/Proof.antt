@@ -7,8 +7,8 @@ use Rattle.run_narrowing.proofs.sift_first.Tie as tie
 
 returns-6 : tie.Need-returns-6
 returns-6 c =
-    let at-least = c .before in
-    let at-leading = at-least .before .before in
+    let at-lesser = c .before in
+    let at-leading = at-lesser .before .before in
     let at-if4 = at-leading .before .before in
     let at-wide = at-if4 .before .before in
     let at-from = at-wide .before .before in
@@ -19,7 +19,7 @@ returns-6 c =
     (entered .pre .1 .1 .0) _ _ _ _ (entered .pre .1 .1 .1 .1) (at-if2 .if2 .left)
     (rw (at-from .from .given .1) at (at-from .before .before .cells-before .ensures)) (rw (at-wide .wide .ensures))
     (at-if4 .if4 .left) (at-if4 .before .if3 .left) (at-leading .leading .ensures)
-    (rw (at-least .before .less .ensures) at (at-least .least .ensures)) refl (c .part-at .ensures)
+    (rw (at-lesser .before .less .ensures) at (at-lesser .lesser .ensures)) refl (c .part-at .ensures)
 
 pub sift-first-spec : {M : Type 1} → statement M
 sift-first-spec =

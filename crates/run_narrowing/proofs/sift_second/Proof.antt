@@ -18,8 +18,8 @@ part-trailing-end c =
 
 returns-5 : tie.Need-returns-5
 returns-5 c =
-    let at-least = c .before in
-    let at-trailing = at-least .before in
+    let at-lesser = c .before in
+    let at-trailing = at-lesser .before in
     let at-if3 = at-trailing .before .before in
     let at-wide = at-if3 .before in
     let at-to = at-wide .before .before in
@@ -29,7 +29,7 @@ returns-5 c =
     second-sifted (a .field .now) (a .word) (a .first) (a .places) _ _ (entered .pre .1 .1 .1 .0) (at-if2 .before .if1 .left)
     (entered .pre .1 .1 .0) _ _ _ _ (entered .pre .1 .1 .1 .1) (at-if2 .if2 .left)
     (rw (at-to .to .given .1) at (at-to .before .before .cells-before .ensures)) (rw (at-wide .wide .ensures))
-    (at-if3 .if3 .left) (at-trailing .trailing .ensures) (at-least .least .ensures) refl (c .part-at .ensures)
+    (at-if3 .if3 .left) (at-trailing .trailing .ensures) (at-lesser .lesser .ensures) refl (c .part-at .ensures)
 
 pub sift-second-spec : {M : Type 1} → statement M
 sift-second-spec =

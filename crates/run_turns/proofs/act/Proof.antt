@@ -11,7 +11,7 @@ use Rattle.run_decoding.specs.Decoded.{actionsMeant}
 use Rattle.run_decoding.proofs.laws.Reading.{use-numbered, actions-at, actions-none, actions-named}
 use Rattle.run_actions.specs.declared.registers.Registers.{Registers}
 use Rattle.run_actions.specs.declared.registers.Next.{Next}
-use Rattle.run_actions.specs.States.{Memory, memory, roomOf, ImplementsAction}
+use Rattle.run_actions.specs.States.{Memory, memory, memoryRoom, ImplementsAction}
 use Rattle.run_turns.specs.Turns.{ActingInvariant, stepped, SimulatesInstruction}
 use Rattle.run_turns.proofs.laws.Turning.{turn-simulates, turn-implements, turn-unknown, turn-leaves}
 use borrow.Author.Needs.{needs}
@@ -50,7 +50,7 @@ read c i e = actions-at (words c) (g c .at .0) i (rw e at (c .decode .ensures)) 
 -- an instruction that is one action, and leads on to a place
 acts : (c : tie.After-decode) (i : Instruction) → c .decode .result ≡ i → (action : Action) (at : ℕ) →
     actionsMeant i (drop (g c .at .0 + 1) (words c)) ≡ action ∷ unpackActions 0 (drop at (words c)) → g c .at .0 + 1 ≤ at →
-    (next : Next) (n : Memory) → roomOf n ≡ roomOf (lent c) → ImplementsAction action at (stepped (g c)) (lent c) next n →
+    (next : Next) (n : Memory) → memoryRoom n ≡ memoryRoom (lent c) → ImplementsAction action at (stepped (g c)) (lent c) next n →
     SimulatesInstruction (words c) (entry c .args .allowance) (g c) (lent c) next n
 acts c i e action at means l next n room a =
     does-step _ _

@@ -15,7 +15,7 @@ use Rattle.run_actions.proofs.registers.Status as status-declared
 use Rattle.run_actions.specs.States.{Memory}
 use Rattle.run_applications.specs.Waiting.{measure}
 use Rattle.run_applications.specs.Simulation.{registersIn}
-use Rattle.run_turns.specs.Turns.{statusIn, nextOf, onward, keptOf, IsOver}
+use Rattle.run_turns.specs.Turns.{statusIn, nextOf, isOnward, keptOf, IsOver}
 
 parts-join : (r : Next) → nextOf (statusIn r) (registersIn r) ≡ r
 parts-join (Onward g) = refl
@@ -26,13 +26,13 @@ parts-join (Deeper g) = refl
 pub rejoined : (r : Next) (x : Status) (g : Registers) → g ≡ registersIn r → x ≡ statusIn r → nextOf x g ≡ r
 rejoined r x g new how = ap (λ (y : Status). nextOf y g) how ∙ ap (nextOf (statusIn r)) new ∙ parts-join r
 
-pub goes-onward : (x : Status) (g : Registers) → onward x ≡ true → nextOf x g ≡ Onward g
+pub goes-onward : (x : Status) (g : Registers) → isOnward x ≡ true → nextOf x g ≡ Onward g
 goes-onward status.Onward g e = refl
 goes-onward status.Done g e = absurd (subst T (sym e) tt)
 goes-onward (status.Stopped ending function) g e = absurd (subst T (sym e) tt)
 goes-onward status.Deeper g e = absurd (subst T (sym e) tt)
 
-pub is-over : (x : Status) (g : Registers) → onward x ≡ false → IsOver (nextOf x g)
+pub is-over : (x : Status) (g : Registers) → isOnward x ≡ false → IsOver (nextOf x g)
 is-over status.Onward g e = absurd (subst T e tt)
 is-over status.Done g e = tt
 is-over (status.Stopped ending function) g e = tt

@@ -12,7 +12,7 @@ use Rattle.run_decoding.specs.Decoded.{Numbered}
 use Rattle.run_actions.specs.declared.registers.Registers.{Registers}
 use Rattle.run_actions.specs.declared.registers.Next.{Next}
 use Rattle.run_actions.specs.declared.registers.Next.the-variants.{Onward, Done, Stopped, Deeper}
-use Rattle.run_actions.specs.States.{Memory, crowdedAt, roomOf, ImplementsAction}
+use Rattle.run_actions.specs.States.{Memory, crowdedAt, memoryRoom, ImplementsAction}
 use Rattle.run_applications.specs.Waiting.{functionsIn, outcomeFrom, measure}
 use Rattle.run_applications.specs.Simulation.{Invariant, registersIn, Simulates, SimulatesApplication}
 use Rattle.run_turns.specs.Turns.{Idle, stepped, keptOf, ActingInvariant, SimulatesTurn, SimulatesEntry}
@@ -34,7 +34,7 @@ module _ (words : Words) (allowance : ℕ) where
 
     -- an action done, or left where it stops
     pub tries-action : (action : Action) (next : Next) (n : Memory) → g .at .0 < length words →
-        unpackActions 0 (drop (g .at .0) words) ≡ action ∷ unpackActions 0 (drop (g .at .0 + 1) words) → roomOf n ≡ roomOf m →
+        unpackActions 0 (drop (g .at .0) words) ≡ action ∷ unpackActions 0 (drop (g .at .0 + 1) words) → memoryRoom n ≡ memoryRoom m →
         ImplementsAction action (g .at .0 + 1) (stepped g) m next n → ActingInvariant allowance g m →
         SimulatesTry words allowance g m (keptOf next g) n
     tries-action action (Onward h) n within means room acts a =
@@ -71,7 +71,7 @@ module _ (words : Words) (allowance : ℕ) where
 
     -- UseSeq done
     pub uses-action : (action : Action) (next : Next) (n : Memory) → g .at .0 < length words →
-        unpackActions 0 (drop (g .at .0) words) ≡ action ∷ unpackActions 0 (drop (g .at .0 + 1) words) → roomOf n ≡ roomOf m →
+        unpackActions 0 (drop (g .at .0) words) ≡ action ∷ unpackActions 0 (drop (g .at .0 + 1) words) → memoryRoom n ≡ memoryRoom m →
         ImplementsAction action (g .at .0 + 1) (stepped g) m next n → ActingInvariant allowance g m → SimulatesUse words allowance g m next n
     uses-action action next n within means room acts a =
         used (turn-implements words allowance g m (a .idle) action (g .at .0 + 1) next n within (a .invariant) means room (omega arith) acts)
@@ -168,7 +168,7 @@ module _ (words : Words) (allowance : ℕ) where
     module _ {g₁ g₂ : Registers} {m₁ m₂ : Memory}
         (begun : SimulatesEntry words allowance g m (Onward g₁) m₁)
         (written : SimulatesTry words allowance g₁ m₁ g₂ m₂) where
-      through : Simulates words allowance (outcomeFrom (roomOf m) allowance words (Onward g) m) g m (Onward g₂) m₂
+      through : Simulates words allowance (outcomeFrom (memoryRoom m) allowance words (Onward g) m) g m (Onward g₂) m₂
       through = simulates-on words allowance _ g m m₁ m₂ (Onward g₁) (Onward g₂) (begun .below .simulates) (written .simulates)
 
       less : Left g₂ m₂ ≤ Left g m
@@ -191,7 +191,7 @@ module _ (words : Words) (allowance : ℕ) where
           SimulatesInstruction words allowance g₄ m₄ next n → SimulatesTurn words allowance g m next n
       turn-done {g₃} {g₄} {m₃} {m₄} {n} {next} u selected does = by u
         where
-          ends : Simulates words allowance (outcomeFrom (roomOf m) allowance words (Onward g) m) g m (Onward g₃) m₃ → Left g₄ m₄ ≤ Left g m →
+          ends : Simulates words allowance (outcomeFrom (memoryRoom m) allowance words (Onward g) m) g m (Onward g₃) m₃ → Left g₄ m₄ ≤ Left g m →
               (Numbered words (g₄ .at .0) useSeqNumber → Left g₄ m₄ < Left g m) → SimulatesTurn words allowance g m next n
           ends lead few fewer =
               let d = does (Left g m) few fewer in

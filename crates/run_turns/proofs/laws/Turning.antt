@@ -12,7 +12,7 @@ use Rattle.run_actions.specs.declared.registers.Registers.{Registers}
 use Rattle.answers.specs.declared.Ending.the-variants.{NoInstruction}
 use Rattle.run_actions.specs.declared.registers.Next.{Next}
 use Rattle.run_actions.specs.declared.registers.Next.the-variants.{Onward, Done, Stopped, Deeper}
-use Rattle.run_actions.specs.States.{Memory, roomOf, ActionInvariant, Preserves, ImplementsAction}
+use Rattle.run_actions.specs.States.{Memory, memoryRoom, ActionInvariant, Preserves, ImplementsAction}
 use Rattle.run_applications.specs.Waiting.{functionsIn, entering, continuationAt, returning, measureWaiting, measure, leftFrom, leftBy}
 use Rattle.run_applications.specs.Simulation.{Invariant, NextInvariant, registersIn, SimulatesAction}
 use Rattle.run_applications.proofs.laws.Waiting.{measure-same, waits-same, waiting-same, waiting-stop, waiting-done}
@@ -23,7 +23,7 @@ use Rattle.run_turns.specs.Turns.{SimulatesTurn, stepped}
 action-invariant : {allowance : ℕ} {g : Registers} {m : Memory} → Invariant allowance g m → ActionInvariant g m
 action-invariant u = record { room = u .ready .room; held = u .current }
 
-module _ (allowance at : ℕ) (g : Registers) (m : Memory) (h : Registers) (n : Memory) (room : roomOf n ≡ roomOf m)
+module _ (allowance at : ℕ) (g : Registers) (m : Memory) (h : Registers) (n : Memory) (room : memoryRoom n ≡ memoryRoom m)
     (s : Preserves at g m h n) (u : Invariant allowance g m) where
   invariant-preserved : Invariant allowance h n
   invariant-preserved =
@@ -49,20 +49,20 @@ module _ (allowance at : ℕ) (g : Registers) (m : Memory) (h : Registers) (n : 
 
 -- AN INSTRUCTION THAT NEITHER CALLS NOR RETURNS
 
-module _ (words : Words) (allowance : ℕ) (action : Action) (at : ℕ) (g : Registers) (m n : Memory) (room : roomOf n ≡ roomOf m)
+module _ (words : Words) (allowance : ℕ) (action : Action) (at : ℕ) (g : Registers) (m n : Memory) (room : memoryRoom n ≡ memoryRoom m)
     (l : g .at .0 ≤ at) (idle : g .callee ≡ 0) where
   pub action-simulates : (next : Next) → ImplementsAction action at g m next n → SimulatesAction words allowance action at g m next n
   action-simulates (Onward h) a u =
       let s = a .preserves in
-      let enters = entering (roomOf m) allowance words in
+      let enters = entering (memoryRoom m) allowance words in
       record {
         simulates =
             record {
               same =
-                  ap (returning (roomOf m) allowance words g m) (a .same allowance (functionsIn words) enters
-                  (continuationAt (roomOf m) allowance words (g .frame) at)) ∙
+                  ap (returning (memoryRoom m) allowance words g m) (a .same allowance (functionsIn words) enters
+                  (continuationAt (memoryRoom m) allowance words (g .frame) at)) ∙
                   rw (s .callee, idle, s .frame, s .place)
-                  (waiting-same (roomOf m) allowance words (m .frames) (n .frames) (m .values) (n .values) (g .frame) (sym (s .waiting))
+                  (waiting-same (memoryRoom m) allowance words (m .frames) (n .frames) (m .values) (n .values) (g .frame) (sym (s .waiting))
                   (rw (s .values)) _);
               invariant = invariant-preserved allowance at g m h n room s u;
               room = room;
@@ -79,9 +79,9 @@ module _ (words : Words) (allowance : ℕ) (action : Action) (at : ℕ) (g : Reg
         simulates =
             record {
               same =
-                  ap (returning (roomOf m) allowance words g m) (a .same allowance (functionsIn words) (entering (roomOf m) allowance words)
-                  (continuationAt (roomOf m) allowance words (g .frame) at)) ∙
-                  waiting-stop (roomOf m) allowance words (g .frame) (m .frames) (m .values) _ _ _;
+                  ap (returning (memoryRoom m) allowance words g m) (a .same allowance (functionsIn words) (entering (memoryRoom m) allowance words)
+                  (continuationAt (memoryRoom m) allowance words (g .frame) at)) ∙
+                  waiting-stop (memoryRoom m) allowance words (g .frame) (m .frames) (m .values) _ _ _;
               invariant = rw (same, kept) (u .ready .room .written);
               room = room;
               beyond = λ old e. rw (same, kept) e;
@@ -124,7 +124,7 @@ module _ (words : Words) (allowance : ℕ) (g : Registers) (m : Memory) (idle : 
       record {
         simulates =
             record {
-              same = rw (idle, e, steps, emitted) (waiting-stop (roomOf m) allowance words (g .frame) (m .frames) (m .values) _ _ _);
+              same = rw (idle, e, steps, emitted) (waiting-stop (memoryRoom m) allowance words (g .frame) (m .frames) (m .values) _ _ _);
               invariant = record { below = rw r (u .ready .room .written .below); logged = rw emitted (u .ready .room .written .logged) };
               room = refl;
               beyond = λ old b. rw emitted b;
@@ -133,7 +133,7 @@ module _ (words : Words) (allowance : ℕ) (g : Registers) (m : Memory) (idle : 
       }
 
   pub turn-implements : (action : Action) (at : ℕ) (next : Next) (n : Memory) → g .at .0 < length words → Invariant allowance g m →
-      unpackActions 0 (drop (g .at .0) words) ≡ action ∷ unpackActions 0 (drop at words) → roomOf n ≡ roomOf m → g .at .0 + 1 ≤ at →
+      unpackActions 0 (drop (g .at .0) words) ≡ action ∷ unpackActions 0 (drop at words) → memoryRoom n ≡ memoryRoom m → g .at .0 + 1 ≤ at →
       ImplementsAction action at (stepped g) m next n → SimulatesTurn words allowance g m next n
   turn-implements action at next n h u e room l a =
       turn-simulates action at next n h u e (action-simulates words allowance action at (stepped g) m n room l idle next a)

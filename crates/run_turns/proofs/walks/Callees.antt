@@ -35,7 +35,7 @@ use Rattle.run_actions.specs.declared.registers.Registers.{Registers}
 use Rattle.run_actions.specs.declared.registers.Next.{Next}
 use Rattle.run_actions.specs.declared.registers.Status.{Status}
 use Rattle.run_applications.specs.Simulation.{registersIn}
-use Rattle.run_turns.specs.Turns.{statusIn, nextOf, onward}
+use Rattle.run_turns.specs.Turns.{statusIn, nextOf, isOnward}
 use Rattle.run_actions.proofs.registers.Registers as R
 use Rattle.run_actions.proofs.registers.Registers.Laws as R′
 use Rattle.run_actions.proofs.registers.Next as N
@@ -82,8 +82,8 @@ module _ {M : Type 1} (𝓤 : URA M) (H : Heap 𝓤) (A : Atoms 𝓤) (at-mem : 
   status-said r x = clause 𝓤 H A (lasts status-of.ended tt (r, tt)) (x ≡ statusIn r)
 
   pub onward-said : (x : Status) (y : Bool) → ent 𝓤 (ensured 𝓤 H A is-onward.ended (is-onward.clauses 𝓤 H A at-mem run) tt (x, tt) tt y)
-      (fact 𝓤 (y ≡ onward x))
-  onward-said x y = clause 𝓤 H A (lasts is-onward.ended tt (x, tt)) (y ≡ onward x)
+      (fact 𝓤 (y ≡ isOnward x))
+  onward-said x y = clause 𝓤 H A (lasts is-onward.ended tt (x, tt)) (y ≡ isOnward x)
 
   pub next-said : (x : Status) (g : Registers) (r : Next) →
       ent 𝓤 (ensured 𝓤 H A next-of.ended (next-of.clauses 𝓤 H A at-mem run) tt (x, (g, tt)) tt r) (fact 𝓤 (r ≡ nextOf x g))

@@ -3,15 +3,16 @@ use Prim.Native.Nat.{_≤_, _<_, _^_}
 use native.Mathlib.Omega.{arith}
 use mathlib.Core.Path.{refl}
 use borrow.Author.Needs.{needs}
+use Rattle.code_patterns.specs.Testing.{SmallSite, siteBound}
 use Rattle.code_patterns.proofs.tests.equal_symbol.Statement.{statement}
 use Rattle.code_patterns.proofs.tests.equal_symbol.Tie as tie
 
 -- the numbers of the two cells
 bounds : (c : tie.After-found-site) → let a = c .before .before .before .args in
-    (c .found-site .result < 16896) × (a .site .register ≤ 2) × (a .site .offset ≤ 64) × (a .t .at < 2 ^ 62)
+    (c .found-site .result < siteBound) × SmallSite (a .site) × (a .t .at < 2 ^ 62)
 bounds c =
-    let (some, small, register, offset, at) = c .before .before .before .pre .0 in
-    (rw (c .found-site .ensures) small, register, offset, at)
+    let (some, small, near, at) = c .before .before .before .pre .0 in
+    (rw (c .found-site .ensures) small, near, at)
 
 found-site-requires : tie.Need-found-site-requires
 found-site-requires c κs = c .before .before .pre .0 .0

@@ -2,8 +2,9 @@
 use native.Mathlib.Omega.{arith}
 use Prim.Native.Nat.{_+_, _≤_, _<_}
 use lib.ListN.{length}
+use Rattle.meaning.specs.Allowed.{maxLetters}
 use Rattle.tape_words.specs.declared.tape.Piece.the-variants.{SVariable}
-use Rattle.code_patterns.specs.Testing.{foundSite}
+use Rattle.code_patterns.specs.Testing.{SmallSite, foundSite, siteBound}
 use Rattle.code_patterns.proofs.laws.Held.{found-good}
 use Rattle.code_patterns.proofs.laws.Scanning.{told}
 use Rattle.code_patterns.proofs.laws.Tested.{site-near, Looked, new-symbol-on, equal-symbol-on}
@@ -13,7 +14,7 @@ use Rattle.code_patterns.proofs.tests.test_symbol.Tie as tie
 
 -- the s-variable stands on the tape with its name, and its cell is near
 bounds : (c : tie.After-name-size) → let a = c .before .before .before .before .before .before .args in let site = c .before .site-of .result in
-    (a .t .letters < 64) × (a .t .next + 1 + c .name-size .result ≤ length (a .tape .now)) × ((site .register ≤ 2) × (site .offset ≤ 64))
+    (a .t .letters < maxLetters) × (a .t .next + 1 + c .name-size .result ≤ length (a .tape .now)) × SmallSite site
 bounds c =
     let entry = c .before .before .before .before .before .before in
     let (named, room) = told _ _ _ _ SVariable (entry .pre .1) in
@@ -21,7 +22,7 @@ bounds c =
     (room, named .fits, site-near (entry .args .lengths) (entry .pre .0 .0) (entry .pre .0 .1))
 
 found-here : (c : tie.After-find) → let at-name-size = c .before .before .before in
-    foundSite (c .find .result) (at-name-size .before .before .before .before .before .before .args .sites .now) < 16896
+    foundSite (c .find .result) (at-name-size .before .before .before .before .before .before .args .sites .now) < siteBound
 found-here c =
     let entry : tie.Start = search in
     found-good (entry .args .sites .now) (entry .pre .0 .0 .good) (c .find .result) .small

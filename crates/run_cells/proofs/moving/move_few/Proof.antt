@@ -3,6 +3,7 @@ use borrow.Author.Needs.{needs}
 use native.Mathlib.Omega.{arith}
 use mathlib.Core.Path.{refl, _∙_, ap}
 use Rattle.run_cells.proofs.laws.Moving.{ShortMove, none-moved, part-moved, all-moved}
+use Rattle.run_cells.specs.Copied.{half, quarter}
 use Rattle.run_cells.proofs.moving.move_few.Statement.{statement}
 use Rattle.run_cells.proofs.moving.move_few.Tie as tie
 
@@ -19,7 +20,7 @@ two c = c .before .before .before .before
 
 after-four : (c : tie.After-out-before) →
     let a = entry (four c) .args in
-    ShortMove 4 (a .input .now) (a .p .0) (a .output .now) (a .first .0) (a .r .0) (four c .move-four .last .0)
+    ShortMove half (a .input .now) (a .p .0) (a .output .now) (a .first .0) (a .r .0) (four c .move-four .last .0)
     (c .before .cell-before .result .0) (c .out-before .result .0)
 after-four c =
     part-moved (none-moved (entry (four c) .pre)) (four c .move-four .ensures) (four c .move-four .kept .0)
@@ -27,7 +28,7 @@ after-four c =
 
 after-two : (c : tie.After-out-before2) →
     let a = entry (four (two c .before .before)) .args in
-    ShortMove 2 (a .input .now) (a .p .0) (a .output .now) (a .first .0) (a .r .0) (two c .move-two .last .0)
+    ShortMove quarter (a .input .now) (a .p .0) (a .output .now) (a .first .0) (a .r .0) (two c .move-two .last .0)
     (c .before .cell-before2 .result .0) (c .out-before2 .result .0)
 after-two c =
     part-moved (after-four (two c .before .before)) (two c .move-two .ensures) (two c .move-two .kept .0)

@@ -14,10 +14,10 @@ use Rattle.run_actions.specs.declared.registers.Registers.{Registers}
 use Rattle.run_actions.specs.declared.registers.Next.{Next}
 use Rattle.run_actions.specs.declared.registers.Next.the-variants.{Onward}
 use Rattle.run_actions.specs.declared.registers.Status.{Status}
-use Rattle.run_actions.specs.States.{Memory, memory, roomOf}
+use Rattle.run_actions.specs.States.{Memory, memory, memoryRoom}
 use Rattle.run_applications.specs.Waiting.{outcomeFrom, measure}
 use Rattle.run_applications.specs.Simulation.{Invariant, NextInvariant, registersIn, Simulates}
-use Rattle.run_turns.specs.Turns.{statusIn, nextOf, onward, SimulatesTurn, IsOver}
+use Rattle.run_turns.specs.Turns.{statusIn, nextOf, isOnward, SimulatesTurn, IsOver}
 use Rattle.run_code.specs.Following.{SimulatesUntil}
 use Rattle.run_applications.proofs.laws.Simulation.{simulates-start, simulates-on}
 use Rattle.run_turns.proofs.laws.Statuses.{rejoined, goes-onward, is-over}
@@ -48,7 +48,7 @@ pub record Turn (words : Words) (allowance : ℕ) (first : Next) (m : Memory) : 
   pub same-record : length «record» ≡ length (m .«record»)
   pub same-frames : length frames ≡ length (m .frames)
   pub same-values : length values ≡ length (m .values)
-  pub simulates : Simulates words allowance (outcomeFrom (roomOf m) allowance words first m) (registersIn first) m (nextOf how g)
+  pub simulates : Simulates words allowance (outcomeFrom (memoryRoom m) allowance words first m) (registersIn first) m (nextOf how g)
       (memory input output «record» frames values)
 
 module _ {words : Words} {allowance : ℕ} {first : Next} {m : Memory} where
@@ -91,12 +91,12 @@ module _ {words : Words} {allowance : ℕ} {first : Next} {m : Memory} where
         same-record = refl;
         same-frames = refl;
         same-values = refl;
-        simulates = subst (λ (r : Next). Simulates words allowance (outcomeFrom (roomOf m) allowance words first m) (registersIn first) m r m)
+        simulates = subst (λ (r : Next). Simulates words allowance (outcomeFrom (memoryRoom m) allowance words first m) (registersIn first) m r m)
             (sym (rejoined first x g new how))
             (simulates-start words allowance first m invariant);
       }
 
-  pub may-step : (t : Turn words allowance first m) → onward (t .how) ≡ true → Invariant allowance (t .g) (memory-in t)
+  pub may-step : (t : Turn words allowance first m) → isOnward (t .how) ≡ true → Invariant allowance (t .g) (memory-in t)
   may-step t said = subst (λ (r : Next). NextInvariant allowance r (memory-in t)) (goes-onward (t .how) (t .g) said) (t .simulates .invariant)
 
   -- the next state
@@ -105,7 +105,7 @@ module _ {words : Words} {allowance : ℕ} {first : Next} {m : Memory} where
       length (ws .1 .1 .1 .1 .1 .0) ≡ length (t .output) → length (ws .1 .1 .1 .1 .1 .1 .0) ≡ length (t .«record») →
       length (ws .1 .1 .1 .1 .1 .1 .1 .0) ≡
       length (t .frames) → length (ws .1 .1 .1 .1 .1 .1 .1 .1 .0) ≡ length (t .values)
-      → Is R.the-row (ws .0) (registers-vals (ws .0)) → Is S.the-row x (w ∷ []) → onward (t .how) ≡ true → Turn words allowance first m
+      → Is R.the-row (ws .0) (registers-vals (ws .0)) → Is S.the-row x (w ∷ []) → isOnward (t .how) ≡ true → Turn words allowance first m
   next-turn t x w ws told e₁ e₂ e₃ e₄ e₅ kept′ is-x said =
       record {
         g = ws .0;
@@ -124,20 +124,21 @@ module _ {words : Words} {allowance : ℕ} {first : Next} {m : Memory} where
         same-frames = e₄ ∙ t .same-frames;
         same-values = e₅ ∙ t .same-values;
         simulates =
-            simulates-on words allowance (outcomeFrom (roomOf m) allowance words first m) (registersIn first) m (memory-in t) (changed ws)
+            simulates-on words allowance (outcomeFrom (memoryRoom m) allowance words first m) (registersIn first) m (memory-in t) (changed ws)
             (Onward (t .g)) (nextOf x (ws .0))
-            (subst (λ (r : Next). Simulates words allowance (outcomeFrom (roomOf m) allowance words first m) (registersIn first) m r (memory-in t))
+            (subst (λ (r : Next). Simulates words allowance (outcomeFrom (memoryRoom m) allowance words first m) (registersIn first) m r
+            (memory-in t))
             (goes-onward (t .how) (t .g) said) (t .simulates)) (told .simulates);
       }
 
-  pub decreases : (t : Turn words allowance first m) (x : Status) (ws : Changed) → Told t x ws → onward (t .how) ≡ true →
+  pub decreases : (t : Turn words allowance first m) (x : Status) (ws : Changed) → Told t x ws → isOnward (t .how) ≡ true →
       measure (length words) allowance (nextOf x (ws .0)) (changed ws) < left t
   decreases t x ws told said =
       subst (λ (r : Next). measure (length words) allowance (nextOf x (ws .0)) (changed ws) < measure (length words) allowance r
       (memory-in t)) (sym (goes-onward (t .how) (t .g) said)) (told .decreases)
 
   -- the last state
-  pub followed : (t : Turn words allowance first m) (r : Next) → onward (t .how) ≡ false → r ≡ nextOf (t .how) (t .g) →
+  pub followed : (t : Turn words allowance first m) (r : Next) → isOnward (t .how) ≡ false → r ≡ nextOf (t .how) (t .g) →
       SimulatesUntil IsOver words allowance first m r (memory-in t)
   followed t r said last = subst (λ (z : Next). SimulatesUntil IsOver words allowance first m z (memory-in t)) (sym last)
       (record { simulates = t .simulates; ended = is-over (t .how) (t .g) said })

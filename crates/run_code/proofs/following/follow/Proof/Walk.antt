@@ -47,7 +47,7 @@ use Rattle.run_actions.specs.declared.registers.Next.{Next}
 use Rattle.run_actions.specs.States.{memory}
 use Rattle.run_applications.specs.Waiting.{countIn}
 use Rattle.run_applications.specs.Simulation.{Invariant, NextInvariant, registersIn}
-use Rattle.run_turns.specs.Turns.{statusIn, nextOf, onward, IsOver}
+use Rattle.run_turns.specs.Turns.{statusIn, nextOf, isOnward, IsOver}
 use Rattle.run_code.specs.Following.{SimulatesUntil}
 use Rattle.run_actions.proofs.registers.Registers as R
 use Rattle.run_actions.proofs.registers.Registers.Laws as R′
@@ -273,7 +273,7 @@ module _ {M : Type 1} (𝓤 : URA M) (H : Heap 𝓤) (A : Atoms 𝓤) (W : Given
           ‵ (Theirs usize (κs .1 .1 .1 .1 .1 .0) (qs .1 .1 .1 .1 .1 .0) frames ν₄ δ₄ (t .frames)) ∷
           ‵ (Theirs u8 (κs .1 .1 .1 .1 .1 .1 .0) (qs .1 .1 .1 .1 .1 .1 .0) values ν₅ δ₅ (t .values)) ∷ []
 
-      goes-step : (t : State) (ν ν₁ ν₂ ν₃ ν₄ ν₅ : ℕ) (δ δ₁ δ₂ δ₃ δ₄ δ₅ : GName) → onward (t .how) ≡ true →
+      goes-step : (t : State) (ν ν₁ ν₂ ν₃ ν₄ ν₅ : ℕ) (δ δ₁ δ₂ δ₃ δ₄ δ₅ : GName) → isOnward (t .how) ≡ true →
           ent 𝓤 (⋆ 𝓤 H A (Lent t ν ν₁ ν₂ ν₃ ν₄ ν₅ δ δ₁ δ₂ δ₃ δ₄ δ₅)) (Step 𝓤 H A at-mem run .pre (to-step t ν ν₁ ν₂ ν₃ ν₄ ν₅ δ δ₁ δ₂ δ₃ δ₄ δ₅))
       goes-step t ν ν₁ ν₂ ν₃ ν₄ ν₅ δ δ₁ δ₂ δ₃ δ₄ δ₅ said =
           qed W (Lent t ν ν₁ ν₂ ν₃ ν₄ ν₅ δ δ₁ δ₂ δ₃ δ₄ δ₅) ∵
@@ -291,7 +291,7 @@ module _ {M : Type 1} (𝓤 : URA M) (H : Heap 𝓤) (A : Atoms 𝓤) (W : Given
       Goes t = Seq (Go {0}) W (At t) (runs (𝓣 .C) (𝓣 .Λ) En body.turn-1 (anyQ (afterTurn 𝓤 H (Below 𝓤 H A Less At t) Left)))
 
       -- `is_onward` is asked
-      asked : (t : State) (y : Bool) → onward (t .how) ≡ y → {rest : Code} {q : After 𝓤 H} →
+      asked : (t : State) (y : Bool) → isOnward (t .how) ≡ y → {rest : Code} {q : After 𝓤 H} →
           Seq (Go {0}) W (laid En (vacant ∷ (passed t ++ vacant ∷ holds (vbool y) ∷ [])) ++ Kept t) (runs (𝓣 .C) (𝓣 .Λ) En rest q)
           → Seq (Go {0}) W (At t) (runs (𝓣 .C) (𝓣 .Λ) En (seq (call #run-turns·is-onward (copy (place 11 []) ∷ []) (place 13 [])) rest) q)
       asked t y said k =
@@ -300,13 +300,13 @@ module _ {M : Type 1} (𝓤 : URA M) (H : Heap 𝓤) (A : Atoms 𝓤) (W : Given
           (asks-onward 𝓤 H A at-mem run W (t .how) (t .value)) $
           calls-at ! fm (IsOnward 𝓤 H A at-mem run) known-onward (to-onward 𝓤 H A at-mem run (t .how) (t .value))
           (and-copies ! 23 refl (no-more !)) (λ w.
-          answers ! tt Boolean _ (λ z. z ≡ onward (t .how)) (onward-said 𝓤 H A at-mem run (t .how)) w
+          answers ! tt Boolean _ (λ z. z ≡ isOnward (t .how)) (onward-said 𝓤 H A at-mem run (t .how)) w
           (λ z e is. drop ! $ land ! (from ! (stop !)) (init ! 26 refl (bool-lawful 𝓤 H A W .typed z _ is .0)) $
           rewrite ! 26 (λ (v : Val). ‵ (fat fullShare tyBool l₁₃ 0 v)) (ap only is) refl $
           rewrite ! 26 (λ (x : Bool). ‵ (fat fullShare tyBool l₁₃ 0 (vbool x))) (e ∙ said) refl $ k))
 
       -- a turn that does an instruction
-      goes-on : (t : State) → onward (t .how) ≡ true → Goes t
+      goes-on : (t : State) → isOnward (t .how) ≡ true → Goes t
       unfolding afterTurn
       goes-on t said =
           asked t true said (stays ! (copies ! 26 refl) $ assigns ! (addr ! (from ! (stop !))) (from ! (stop !)) (init ! 28 refl (tt, tt)) $
@@ -362,7 +362,7 @@ module _ {M : Type 1} (𝓤 : URA M) (H : Heap 𝓤) (A : Atoms 𝓤) (W : Given
           again ! Less At t (next-turn t x w ws told e₁ e₂ e₃ e₄ e₅ kept′ is-x said) (decreases t x ws told said)))))))))))))))))
 
       -- the turn that leaves the loop, and the rest of the body
-      ends : (t : State) → onward (t .how) ≡ false → Goes t
+      ends : (t : State) → isOnward (t .how) ≡ false → Goes t
       unfolding afterTurn
       ends t said =
           asked t false said (leaves-loop ! (copies ! 26 refl) $ exec ! (𝓣 .C) (𝓣 .Λ) En body.t-5 (atRet En Post) $
@@ -380,12 +380,12 @@ module _ {M : Type 1} (𝓤 : URA M) (H : Heap 𝓤) (A : Atoms 𝓤) (W : Given
           frees-laid ! En (holds u ∷ (passed t ++ holds (registers-val (t .g)) ∷ holds (vbool false) ∷ [])) $ by !
           (exits t r u (followed t r said last)))))
 
-      either : (t : State) (y : Bool) → onward (t .how) ≡ y → Goes t
+      either : (t : State) (y : Bool) → isOnward (t .how) ≡ y → Goes t
       either t true said = goes-on t said
       either t false said = ends t said
 
       turns : (t : State) → Goes t
-      turns t = either t (onward (t .how)) refl
+      turns t = either t (isOnward (t .how)) refl
 
     pub walk : NextInvariant allowance first (memory (now input) (now output) (now «record») (now frames) (now values)) →
         Triple 𝓤 (𝓣 .C #run-turns·registers-of) (RegistersOf 𝓤 H A at-mem run) → Triple 𝓤 (𝓣 .C #run-turns·status-of) (StatusOf 𝓤 H A at-mem run)
