@@ -2,7 +2,8 @@
 ghost use Prim.Native.Nat.{ℕ, _≤_, _<_};
 ghost use mathlib.Core.Path.{_≡_};
 ghost use lib.ListN.{length};
-ghost use Rattle.meaning.specs.Choice.{Bytes};
+ghost use Rattle.meaning.specs.Choice.{Bytes, pick};
+ghost use Rattle.meaning.specs.Packing.{goNumber, selectNumber};
 ghost use Rattle.byte_classes.specs.Tests.{Answers};
 ghost use Rattle.run_actions.specs.States.{memory, SelectionWithin, FrameWithin, Held, Paired, CountsWithin};
 ghost use Rattle.run_applications.specs.Waiting.{countIn};
@@ -77,24 +78,15 @@ fn kept(next: Next, g: Registers) -> Registers
     }
 }
 
-// Go, where it comes next.
-fn try_go(g: Registers, code: &[u32], input: &[u8], frames: &[usize]) -> Registers
-    requires { ⌜ SelectionWithin (g .p .0) (g .q .0) (now input) ⌝ }
-    requires { ⌜ FrameWithin (g .frame) (now frames) ⌝ }
-    requires { ⌜ Held (g .frame) (now frames) ⌝ }
-    ensures simulates { λ h. ⌜ ((allowance : ℕ) (output «record» values : Bytes) →
-        let m = memory (now (input .entry)) output «record» (now (frames .entry)) values in
-        ActingInvariant allowance g m → SimulatesTry (now (code .entry)) allowance g m h m) ⌝ }
+// The number of Go, or of Select.
+fn span_number(goes: bool) -> u32
+    ensures result { λ r. ⌜ r ≡ pick goes goNumber selectNumber ⌝ }
 {
-    let Found::Word(word, next) = find_word(code, g.at, GO) else {
-        return g;
-    };
-    let h = Registers { at: next, ..g };
-    kept(go(h, word, input, frames), g)
+    if goes { GO } else { SELECT }
 }
 
-// Select, where it comes next.
-fn try_select(g: Registers, code: &[u32], input: &[u8], frames: &[usize]) -> Registers
+// Go, or else Select, where it comes next.
+fn try_span(g: Registers, goes: bool, code: &[u32], input: &[u8], frames: &[usize]) -> Registers
     requires { ⌜ SelectionWithin (g .p .0) (g .q .0) (now input) ⌝ }
     requires { ⌜ FrameWithin (g .frame) (now frames) ⌝ }
     requires { ⌜ Held (g .frame) (now frames) ⌝ }
@@ -102,10 +94,13 @@ fn try_select(g: Registers, code: &[u32], input: &[u8], frames: &[usize]) -> Reg
         let m = memory (now (input .entry)) output «record» (now (frames .entry)) values in
         ActingInvariant allowance g m → SimulatesTry (now (code .entry)) allowance g m h m) ⌝ }
 {
-    let Found::Word(word, next) = find_word(code, g.at, SELECT) else {
+    let Found::Word(word, next) = find_word(code, g.at, span_number(goes)) else {
         return g;
     };
     let h = Registers { at: next, ..g };
+    if goes {
+        return kept(go(h, word, input, frames), g);
+    }
     kept(select(h, word, input, frames), g)
 }
 
@@ -252,10 +247,10 @@ fn write_items(
         ActingInvariant allowance g m → SimulatesTry (now (code .entry)) allowance g m h n) ⌝ }
 {
     let begun = try_begin(g, code, frames);
-    let gone = try_go(begun, code, input, frames);
-    let selected = try_select(gone, code, input, frames);
+    let gone = try_span(begun, true, code, input, frames);
+    let selected = try_span(gone, false, code, input, frames);
     let written = try_writes(selected, code, input, output, frames, values);
-    try_go(written, code, input, frames)
+    try_span(written, true, code, input, frames)
 }
 
 // One turn of the run: an application that is to begin, and, unless another is then to begin, instructions in the order
@@ -292,7 +287,7 @@ fn advance(
     let Next::Onward(ready) = used else {
         return used;
     };
-    let selected = try_select(ready, code, input, frames);
+    let selected = try_span(ready, false, code, input, frames);
     act(
         selected,
         code,

@@ -105,13 +105,13 @@ used-second c = subst (UsedTo (before-second c)) (c .used .given .1) (used (befo
 acting-second : (c : tie.After-used) → ActingInvariant (start (before-use (before-second c)) .args .allowance) (second c) (used-in (before-second c))
 acting-second c = acting-used _ _ (acting-on _ _ (written (before-use (before-second c)))) (used-second c)
 
-abbrev before-select : tie.After-try-select → tie.After-used
+abbrev before-select : tie.After-try-span → tie.After-used
 before-select c = c .before .before .before .before
 
-selected : (c : tie.After-try-select) → let at-use = before-second (before-select c) in
+selected : (c : tie.After-try-span) → let at-use = before-second (before-select c) in
     SimulatesTry (words (start (before-use at-use))) (start (before-use at-use) .args .allowance) (second (before-select c)) (used-in at-use)
-    (c .try-select .result) (used-in at-use)
-selected c = c .try-select .ensures _ _ _ _ (acting-second (before-select c))
+    (c .try-span .result) (used-in at-use)
+selected c = c .try-span .ensures _ _ _ _ (acting-second (before-select c))
 
 enter-requires : tie.Need-enter-requires
 enter-requires c κs =
@@ -160,8 +160,8 @@ returns-3 c =
     (over-left _ (start (before-use at-use) .args .allowance) (at-use .try-use .result) (used-in at-use)
     (over-tagged (at-use .try-use .result) (c .match2 .keys2))) (used at-use)
 
-try-select-requires : tie.Need-try-select-requires
-try-select-requires c κs =
+try-span-requires : tie.Need-try-span-requires
+try-span-requires c κs =
     let u = acting-second (c .before .before .before) .invariant in
     (u .ready .room .selection, (u .ready .room .frame, u .current))
 
@@ -223,7 +223,7 @@ advance-spec =
     same-length-9
     same-length-10
     returns-3
-    try-select-requires
+    try-span-requires
     act-requires
     same-length-11
     same-length-12

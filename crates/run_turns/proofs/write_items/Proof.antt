@@ -27,25 +27,25 @@ TriesTo e h output frames =
 begun : (c : tie.After-try-begin) → TriesTo (entry c) (c .try-begin .result) (entry c .args .output .now) (c .try-begin .last .1 .1 .0)
 begun c allowance «record» = c .try-begin .ensures allowance _ _ «record» _
 
-abbrev before-go : tie.After-try-go → tie.After-try-begin
+abbrev before-go : tie.After-try-span → tie.After-try-begin
 before-go c = c .before .before .before .before
 
-gone : (c : tie.After-try-go) → let from = before-go c in
-    TriesTo (entry from) (c .try-go .result) (entry from .args .output .now) (from .try-begin .last .1 .1 .0)
+gone : (c : tie.After-try-span) → let from = before-go c in
+    TriesTo (entry from) (c .try-span .result) (entry from .args .output .now) (from .try-begin .last .1 .1 .0)
 gone c allowance «record» a =
     let t = begun (before-go c) allowance «record» a in
-    tries-then _ _ t (c .try-go .ensures allowance _ «record» _ (acting-on _ _ t))
+    tries-then _ _ t (c .try-span .ensures allowance _ «record» _ (acting-on _ _ t))
 
-abbrev before-select : tie.After-try-select → tie.After-try-go
+abbrev before-select : tie.After-try-span2 → tie.After-try-span
 before-select c = c .before .before
 
-selected : (c : tie.After-try-select) → let from = before-go (before-select c) in
-    TriesTo (entry from) (c .try-select .result) (entry from .args .output .now) (from .try-begin .last .1 .1 .0)
+selected : (c : tie.After-try-span2) → let from = before-go (before-select c) in
+    TriesTo (entry from) (c .try-span2 .result) (entry from .args .output .now) (from .try-begin .last .1 .1 .0)
 selected c allowance «record» a =
     let t = gone (before-select c) allowance «record» a in
-    tries-then _ _ t (c .try-select .ensures allowance _ «record» _ (acting-on _ _ t))
+    tries-then _ _ t (c .try-span2 .ensures allowance _ «record» _ (acting-on _ _ t))
 
-abbrev before-writes : tie.After-try-writes → tie.After-try-select
+abbrev before-writes : tie.After-try-writes → tie.After-try-span2
 before-writes c = c .before .before .before
 
 abbrev start : tie.After-try-writes → tie.After-try-begin
@@ -64,14 +64,14 @@ ready e h output frames tries =
     let o = e .pre in
     record { allowance = o .allowance; «record» = o .«record»; acting = acting-on _ _ (tries (o .allowance) (o .«record») (o .acting)) }
 
-try-go-requires : tie.Need-try-go-requires
-try-go-requires c κs =
+try-span-requires : tie.Need-try-span-requires
+try-span-requires c κs =
     let at-begin = c .before .before .before in
     let u = ready (entry at-begin) _ _ _ (begun at-begin) .acting .invariant in
     (u .ready .room .selection, (u .ready .room .frame, u .current))
 
-try-select-requires : tie.Need-try-select-requires
-try-select-requires c κs =
+try-span-requires-2 : tie.Need-try-span-requires-2
+try-span-requires-2 c κs =
     let u = ready (entry (before-go (c .before))) _ _ _ (gone (c .before)) .acting .invariant in
     (u .ready .room .selection, (u .ready .room .frame, u .current))
 
@@ -80,8 +80,8 @@ try-writes-requires c κs =
     let at-select = c .before .before in
     ready (entry (before-go (before-select at-select))) _ _ _ (selected at-select)
 
-try-go-requires-2 : tie.Need-try-go-requires-2
-try-go-requires-2 c κs =
+try-span-requires-3 : tie.Need-try-span-requires-3
+try-span-requires-3 c κs =
     let at-writes = c .before .before .before in
     let u = ready (entry (start at-writes)) _ _ _ (written at-writes) .acting .invariant in
     (u .ready .room .selection, (u .ready .room .frame, u .current))
@@ -92,17 +92,17 @@ same-length-2 c = start (c .before .before .before .before) .try-begin .kept .1 
 returns : tie.Need-returns
 returns c allowance «record» a =
     let t = written (c .before .before .before .before) allowance «record» a in
-    tries-then _ _ t (c .try-go2 .ensures allowance _ «record» _ (acting-on _ _ t))
+    tries-then _ _ t (c .try-span3 .ensures allowance _ «record» _ (acting-on _ _ t))
 
 pub write-items-spec : {M : Type 1} → statement M
 write-items-spec =
     tie.close
     (tie.spec
     (λ c κs. search needs)
-    try-go-requires
-    try-select-requires
+    try-span-requires
+    try-span-requires-2
     try-writes-requires
-    try-go-requires-2
+    try-span-requires-3
     (λ c. search needs)
     same-length-2
     returns)
