@@ -2,6 +2,7 @@
 
 use crate::history::{History, history};
 use crate::program::{self, Printed, Run};
+use crate::shown::steps;
 use refal0_apart::reader::read;
 use refal0_apart::tree::Table;
 use std::fs;
@@ -76,10 +77,8 @@ pub fn alike(run: &Run, history: &History) -> bool {
 
 /// How both systems ended, where that isn't alike.
 pub fn unlike(run: &Run, history: &History) -> String {
-    let (answer, steps) = (history.outcome.answer, history.outcome.steps);
-    let same = if (run.answer, run.steps) == (answer, steps) { ", but not with the same lines" } else { "" };
-    format!(
-        "the proved program ends with {} after {} steps, the Refal-0 system of rust/ with {answer} after {steps}{same}",
-        run.answer, run.steps
-    )
+    let ends = |answer: u64, count: u64| format!("with {answer} after {}", steps(count));
+    let (proved, apart) = (ends(run.answer, run.steps), ends(history.outcome.answer, history.outcome.steps));
+    let same = if proved == apart { ", but not with the same lines" } else { "" };
+    format!("the proved program ends {proved}, the Refal-0 system of rust/ {apart}{same}")
 }

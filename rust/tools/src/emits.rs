@@ -2,7 +2,7 @@
 
 use crate::mistakes::headed;
 use crate::near::nearest;
-use crate::shown::quoted;
+use crate::shown::{named, quoted};
 use crate::tokens::{Shape, Token, tokens};
 use refal0_apart::corpus::Lending;
 use refal0_apart::outcome::Outcome;
@@ -10,10 +10,6 @@ use refal0_apart::rewriter::{Watcher, rewrite_watched};
 use refal0_apart::tree::Table;
 
 const LINE_END: u8 = 10;
-
-fn shown(name: &[u8]) -> String {
-    String::from_utf8_lossy(name).into_owned()
-}
 
 /// The first emission of a table whose name is not among the known ones: where it stands, and what may be meant.
 pub fn unknown_emission(path: &str, text: &[u8], known: &[String]) -> Option<String> {
@@ -23,7 +19,7 @@ pub fn unknown_emission(path: &str, text: &[u8], known: &[String]) -> Option<Str
     let mut emitted = called.filter(|name| name.text.starts_with(b"Emit"));
     let unknown = emitted.find(|name| !known.iter().any(|other| other.as_bytes() == name.text))?;
     let meant = match nearest(unknown.text, known.iter().map(String::as_bytes)) {
-        Some(near) => format!("did you mean {}?", shown(near)),
+        Some(near) => format!("did you mean {}?", named(near)),
         None => format!("--emits has {}", known.join(", ")),
     };
     let place = headed(path, text, unknown.place, unknown.text.len(), "refused by --emits");
@@ -56,7 +52,7 @@ struct Emissions {
 impl Watcher for Emissions {
     fn emitted(&mut self, _waiting: usize, name: &[u8], argument: &[u8]) {
         if self.of_more_lines.is_none() && argument.contains(&LINE_END) {
-            self.of_more_lines = Some((shown(name), quoted(argument)));
+            self.of_more_lines = Some((named(name), quoted(argument)));
         }
     }
 }

@@ -1,12 +1,13 @@
 //! What a run ended with, in words.
 
+use crate::shown::named;
 use crate::tokens::tokens;
 use refal0_apart::tree::Table;
 
 /// The name of a function by its number from 1.
 fn name(table: &Table, function: usize) -> String {
-    let named = function.checked_sub(1).and_then(|index| table.functions.get(index));
-    named.map_or(String::new(), |function| String::from_utf8_lossy(&function.name).into_owned())
+    let declared = function.checked_sub(1).and_then(|index| table.functions.get(index));
+    declared.map_or(String::new(), |function| named(&function.name))
 }
 
 /// What the function of this number recovers, if it recovers any.

@@ -1,7 +1,7 @@
 //! What a run does, event by event, by the Refal-0 system written apart; and how it ends on the program's rooms.
 
 use crate::reason::reason;
-use crate::shown::{cut, quoted};
+use crate::shown::{cut, named, quoted};
 use refal0_apart::angles::Operation;
 use refal0_apart::corpus::Lending;
 use refal0_apart::outcome::Outcome;
@@ -158,7 +158,7 @@ impl Watcher for Recorder<'_> {
 
     fn computed(&mut self, waiting: usize, operation: Operation, argument: &[u8], result: &Result<Vec<u8>, u64>) {
         self.note(waiting, |_| {
-            let name = String::from_utf8_lossy(operation.name()).into_owned();
+            let name = named(operation.name());
             let result = result.as_ref().map(|angle| quoted(angle)).map_err(|&answer| answer);
             Kind::Angles { name, argument: quoted(argument), result }
         });

@@ -2,7 +2,7 @@
 
 use crate::history::{Event, History, Kind, Taken};
 use crate::json::Value;
-use crate::shown::escaped;
+use crate::shown::{escaped, named};
 use crate::trace::{function_name, said};
 use refal0_apart::listing::sentence_line;
 use refal0_apart::tree::Table;
@@ -37,7 +37,7 @@ fn functions(table: &Table) -> Value {
             let line = sentence_line(table, sentence);
             Value::text(String::from_utf8_lossy(&line).trim_end_matches([';', '\n']))
         });
-        let name = Value::Text(String::from_utf8_lossy(&function.name).into_owned());
+        let name = Value::Text(named(&function.name));
         Value::Object(vec![("name", name), ("sentences", Value::list(lines))])
     }))
 }

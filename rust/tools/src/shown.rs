@@ -1,4 +1,4 @@
-//! Bytes as people read them: in quotes, with control bytes escaped and long texts cut in the middle.
+//! Bytes as people read them: in quotes, with control bytes escaped and long texts cut in the middle; names and steps.
 
 /// At most so many characters of a text are shown in a line.
 pub const WIDTH: usize = 60;
@@ -37,6 +37,16 @@ fn ends(text: &[u8], width: usize) -> String {
     };
     let (first, last) = (fits(&mut head.iter()), fits(&mut tail.iter().rev()));
     format!("{}{CUT}{}", head[..first].concat(), tail[tail.len() - last..].concat())
+}
+
+/// A name of a table, which is plain ASCII.
+pub fn named(name: &[u8]) -> String {
+    String::from_utf8_lossy(name).into_owned()
+}
+
+/// How many steps were made.
+pub fn steps(count: u64) -> String {
+    if count == 1 { String::from("1 step") } else { format!("{count} steps") }
 }
 
 /// The whole text with its bytes escaped.

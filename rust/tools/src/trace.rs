@@ -1,7 +1,7 @@
 //! A run in lines: one for each application, emission and angle call, indented by how many applications wait.
 
 use crate::history::{Application, Event, History, Kind, Taken};
-use crate::shown::{cut, escaped};
+use crate::shown::{cut, escaped, named, steps};
 use refal0_apart::tree::Table;
 
 /// The first line of every trace.
@@ -41,7 +41,7 @@ pub fn said(table: &Table, event: &Event) -> String {
 }
 
 pub fn function_name(table: &Table, function: usize) -> String {
-    String::from_utf8_lossy(&table.functions[function].name).into_owned()
+    named(&table.functions[function].name)
 }
 
 fn said_of_application(table: &Table, application: &Application) -> String {
@@ -61,7 +61,6 @@ fn said_of_application(table: &Table, application: &Application) -> String {
 /// How the run ended, in numbers and with its result.
 pub fn closing(table: &Table, history: &History) -> String {
     let outcome = &history.outcome;
-    let steps = if outcome.steps == 1 { String::from("1 step") } else { format!("{} steps", outcome.steps) };
     let at = match outcome.function {
         0 => String::new(),
         function => format!(" in {} (function {function})", function_name(table, function - 1)),
@@ -70,5 +69,5 @@ pub fn closing(table: &Table, history: &History) -> String {
         0 => format!(", result '{}'", escaped(&outcome.text)),
         _ => String::new(),
     };
-    format!("answer {}{at} after {steps}{result}", outcome.answer)
+    format!("answer {}{at} after {}{result}", outcome.answer, steps(outcome.steps))
 }

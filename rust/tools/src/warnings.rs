@@ -1,6 +1,7 @@
 //! What is accepted, but is hardly meant: what a run never uses, and comments that go on too far.
 
 use crate::near::{near, nearest};
+use crate::shown::named;
 use crate::spot::spot;
 use crate::tokens::{Shape, Token, declared, tokens};
 use refal0_apart::class::RECOVER;
@@ -8,10 +9,6 @@ use refal0_apart::tree::{Callee, Item, Letter, Sentence, Subject, Table};
 
 /// The shortest variable that is compared with another by its spelling.
 const SPELT: usize = 4;
-
-fn shown(name: &[u8]) -> String {
-    String::from_utf8_lossy(name).into_owned()
-}
 
 /// What a person should look at, a line each, with the line of the table.
 pub fn warnings(text: &[u8], table: &Table) -> Vec<String> {
@@ -75,8 +72,8 @@ fn unrecovered(table: &Table, function: usize) -> String {
     let Some(wanted) = wanted else { return String::new() };
     let names = table.functions.iter().map(|other| other.name.as_slice());
     match nearest(wanted, names) {
-        Some(near) => format!(", and recovers nothing: did you mean Recover{}?", shown(near)),
-        None => format!(", and there is no {} that it could recover", shown(wanted)),
+        Some(near) => format!(", and recovers nothing: did you mean Recover{}?", named(near)),
+        None => format!(", and there is no {} that it could recover", named(wanted)),
     }
 }
 
@@ -106,10 +103,10 @@ fn takes_everything(sentence: &Sentence) -> bool {
 
 /// A variable that stands in the pattern alone, once, while another of nearly the same name is there.
 fn unused_variable(sentence: &Sentence) -> Option<(String, String)> {
-    let named = |kind: char, names: &[Vec<u8>]| -> Vec<String> {
-        names.iter().map(|name| format!("{kind}{}", shown(name))).collect()
+    let variables = |kind: char, names: &[Vec<u8>]| -> Vec<String> {
+        names.iter().map(|name| format!("{kind}{}", named(name))).collect()
     };
-    let (symbols, parts) = (named('s', &sentence.symbols), named('e', &sentence.parts));
+    let (symbols, parts) = (variables('s', &sentence.symbols), variables('e', &sentence.parts));
     let symbol_used = |symbol: usize| {
         let places = sentence.templates.iter().flatten().filter(|&&letter| letter == Letter::Symbol(symbol)).count();
         places > 1 || uses(sentence, Item::Symbol(symbol), Subject::Symbol(symbol))

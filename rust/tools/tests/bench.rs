@@ -57,17 +57,17 @@ fn settings_go_out_if_both_systems_end_alike() {
 #[test]
 fn nothing_goes_out_if_the_emissions_differ() {
     let output = bench("emissions", TABLE, SHEET, &RUN.replace("60", "90"));
-    assert_nothing_set(&output, DIFFERENT, "with 0 after 1, but not with the same lines");
+    assert_nothing_set(&output, DIFFERENT, "with 0 after 1 step, but not with the same lines");
 }
 
 #[test]
 fn nothing_goes_out_if_the_answers_or_steps_differ() {
     let output = bench("steps", TABLE, SHEET, "0 0 2\nEmitStop 60\n\n1 Line 2\ntotal 2\n");
-    assert_nothing_set(&output, DIFFERENT, "with 0 after 2 steps, the Refal-0 system of rust/ with 0 after 1");
+    assert_nothing_set(&output, DIFFERENT, "with 0 after 2 steps, the Refal-0 system of rust/ with 0 after 1 step");
     let output = bench("answers", TABLE, "SWING 60", RUN);
-    assert_nothing_set(&output, DIFFERENT, "with 0 after 1 steps, the Refal-0 system of rust/ with 11 after 1");
+    assert_nothing_set(&output, DIFFERENT, "with 0 after 1 step, the Refal-0 system of rust/ with 11 after 1 step");
     let early = bench("early", TABLE, SHEET, "11 1 1\n\n1 Line 1\ntotal 1\n");
-    assert_nothing_set(&early, DIFFERENT, "with 11 after 1 steps, the Refal-0 system of rust/ with 0 after 1");
+    assert_nothing_set(&early, DIFFERENT, "with 11 after 1 step, the Refal-0 system of rust/ with 0 after 1 step");
 }
 
 #[test]

@@ -9,7 +9,7 @@ use tools::endings::ending;
 use tools::history::History;
 use tools::mistakes;
 use tools::program::Run;
-use tools::shown::escaped;
+use tools::shown::{escaped, steps};
 use tools::trace::said;
 use tools::warnings::warnings;
 
@@ -69,7 +69,7 @@ fn benched() -> Result<u8, String> {
 
 /// Shows a run that both systems end alike.
 fn shown_run(text: &[u8], table: &Table, run: &Run, history: &History) -> io::Result<u8> {
-    let steps = if run.steps == 1 { String::from("1 step") } else { format!("{} steps", run.steps) };
+    let steps = steps(run.steps);
     if run.answer == 0 {
         let mut output = io::stdout().lock();
         output.write_all(&run.body)?;
