@@ -14,11 +14,17 @@ pub data Class : Type 0 where
 abbrev pub within : ℕ → ℕ → ℕ → Bool
 within low high b = both (leb low b) (leb b high)
 
+abbrev pub isUpper : ℕ → Bool
+isUpper b = within 65 90 b
+
+abbrev pub isLower : ℕ → Bool
+isLower b = within 97 122 b
+
 abbrev pub inClass : Class → ℕ → Bool
 inClass digit b = within 48 57 b
-inClass upper b = within 65 90 b
-inClass lower b = within 97 122 b
-inClass alphabetic b = either (within 65 90 b) (within 97 122 b)
+inClass upper b = isUpper b
+inClass lower b = isLower b
+inClass alphabetic b = either (isUpper b) (isLower b)
 inClass blank b = either (either (eqb b 32) (eqb b 9)) (either (eqb b 10) (eqb b 13))
 
 -- what is asked is so, or is not so, as expected

@@ -5,11 +5,11 @@ pub mod Numerals
 pub mod Angles
 pub mod Tree
 pub mod Names
+pub mod Allowed
 pub mod Answers
 pub mod Outcome
 pub mod Rewriting
 pub mod Fits
-pub mod Allowed
 pub mod Instructions
 pub mod Matching
 pub mod Machine

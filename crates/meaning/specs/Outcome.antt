@@ -7,6 +7,7 @@ use lib.ListN.{getD, set, replicate}
 use mathlib.Core.Option.{Option, none, some}
 use Rattle.meaning.specs.Choice.{Bytes, Name}
 use Rattle.meaning.specs.Angles.{Angled, sum, notAngles, outOfRange}
+use Rattle.meaning.specs.Allowed.{maxFunctions}
 use Rattle.meaning.specs.Answers.{finished, argumentNotAngles, angleOutOfRange}
 
 -- steps left of the allowance, steps made, the applications of each function, and the record
@@ -16,9 +17,9 @@ pub record Tally : Type 0 where
   pub counts : List ℕ
   pub emissions : Bytes
 
--- 02, T-01: "a count for each function", of which a table has at most 64
+-- 02, T-01: "a count for each function"
 abbrev pub maxCounted : ℕ
-maxCounted = 64
+maxCounted = maxFunctions
 
 abbrev pub uncounted : List ℕ
 uncounted = replicate maxCounted 0
