@@ -417,8 +417,8 @@ pack code = length code ∷ placesFrom (suc (length code)) code ++ packFunctions
 abbrev pub functionsAt : Words → Words → Code
 functionsAt ws places = map (λ at. unpackSentences 0 (drop at ws)) places
 
--- "The function table is sound when the code has its count word, an entry for each function, and each entry names a
--- place inside the code"
+-- the function table has an entry for each function, and each names a place inside the code: decision 19 of
+-- docs/DECISIONS.md
 abbrev pub soundTable : Words → Words → ℕ → Bool
 soundTable ws rest count = both (leb count (length rest)) (every (λ at. ltb at (length ws)) (take count rest))
 
