@@ -1,5 +1,6 @@
 -- The definitions, in the order in which they build on each other.
 pub mod Choice
+pub mod Ascii
 pub mod Classes
 pub mod Numerals
 pub mod Angles

@@ -6,6 +6,7 @@ use mathlib.Core.List.{List, [], _∷_, _++_}
 use lib.ListN.{getD, set, replicate}
 use mathlib.Core.Option.{Option, none, some}
 use Rattle.meaning.specs.Choice.{Bytes, Name}
+use Rattle.meaning.specs.Ascii.{space, lineFeed}
 use Rattle.meaning.specs.Angles.{Angled, sum, notAngles, outOfRange}
 use Rattle.meaning.specs.Allowed.{maxFunctions}
 use Rattle.meaning.specs.Answers.{finished, argumentNotAngles, angleOutOfRange}
@@ -43,7 +44,7 @@ abbrev pub pay : ℕ → Tally → Option Tally
 pay f t = paidFrom (t .stepsLeft) f t
 
 abbrev pub emittedLine : Name → Bytes → Bytes
-emittedLine name argument = name ++ 32 ∷ (argument ++ 10 ∷ [])
+emittedLine name argument = name ++ space ∷ (argument ++ lineFeed ∷ [])
 
 abbrev pub emitted : Name → Bytes → Tally → Tally
 emitted name argument t =
