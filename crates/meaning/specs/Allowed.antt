@@ -6,6 +6,7 @@ use mathlib.Core.Option.{Option, none, some}
 use lib.Dec.{leb, ltb, eqb}
 use lib.ListN.{length}
 use Rattle.meaning.specs.Choice.{Name, pick, both, either, isSome, every, sameBytes}
+use Rattle.meaning.specs.Ascii.{hyphen, underscore}
 use Rattle.meaning.specs.Classes.{inClass, digit, alphabetic}
 use Rattle.meaning.specs.Tree.{character, symbol, Element, letter, part, Subject, ofSymbol, ofPart, Condition}
 use Rattle.meaning.specs.Tree.{Expression, end, thenCharacter, thenSymbol, thenPart, thenCall, Sentence, Function}
@@ -54,7 +55,7 @@ abbrev pub wordByte : ℕ → Bool
 wordByte b = either (inClass alphabetic b) (inClass digit b)
 
 abbrev pub nameByte : ℕ → Bool
-nameByte b = either (wordByte b) (either (eqb b 95) (eqb b 45))
+nameByte b = either (wordByte b) (either (eqb b underscore) (eqb b hyphen))
 
 -- "Function name: a letter, then letters, digits, _ or -"
 abbrev pub spelledName : Name → Bool

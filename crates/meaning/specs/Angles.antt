@@ -9,6 +9,7 @@ use lib.Dec.{leb, eqb}
 use lib.IntN.{ℤ, pos, negsuc, negℤ, natAbs, _+ℤ_, _-ℤ_}
 use lib.ListN.{length}
 use Rattle.meaning.specs.Choice.{Bytes, pick, both, guard, every}
+use Rattle.meaning.specs.Ascii.{space, hyphen, colon}
 use Rattle.meaning.specs.Classes.{inClass, digit, within}
 use Rattle.meaning.specs.Numerals.{decimal, twoDigits, numeralFrom}
 
@@ -20,6 +21,16 @@ pub data Operation : Type 0 where
 abbrev pub operation : Bool → Operation
 operation false = plus
 operation true = minus
+
+-- "degree digits up to 359", "minute digits 00 to 59"
+abbrev pub maxDegrees : ℕ
+maxDegrees = 359
+
+abbrev pub lastMinute : ℕ
+lastMinute = 59
+
+abbrev pub minutesInDegree : ℕ
+minutesInDegree = 60
 
 -- READING
 
@@ -39,13 +50,14 @@ numeralIn least most greatest ds =
     (some (numeralFrom 0 ds))
 
 abbrev pub minutesOf : Option ℕ → Option ℕ → Option ℕ
-minutesOf (some d) (some m) = some (60 * d + m)
+minutesOf (some d) (some m) = some (minutesInDegree * d + m)
 minutesOf (some d) none = none
 minutesOf none m = none
 
 -- degrees and minutes in minutes
 abbrev pub sizeIn : Bytes → Option ℕ
-sizeIn text = minutesOf (numeralIn 1 3 359 (cutBefore 58 text)) (numeralIn 2 2 59 (cutAfter 58 text))
+sizeIn text =
+    minutesOf (numeralIn 1 3 maxDegrees (cutBefore colon text)) (numeralIn 2 2 lastMinute (cutAfter colon text))
 
 abbrev pub signed : Bool → ℕ → ℤ
 signed true n = negℤ (pos n)
@@ -57,16 +69,16 @@ withSign below (some n) = some (signed below n)
 
 abbrev pub angleIn : Bytes → Option ℤ
 angleIn [] = none
-angleIn (b ∷ text) = pick (eqb b 45) (withSign true (sizeIn text)) (withSign false (sizeIn (b ∷ text)))
+angleIn (b ∷ text) = pick (eqb b hyphen) (withSign true (sizeIn text)) (withSign false (sizeIn (b ∷ text)))
 
 -- WRITING
 
 abbrev pub sizeText : ℕ → Bytes
-sizeText n = decimal (n / 60) ++ 58 ∷ twoDigits (n % 60)
+sizeText n = decimal (n / minutesInDegree) ++ colon ∷ twoDigits (n % minutesInDegree)
 
 abbrev pub angleText : ℤ → Bytes
 angleText (pos n) = sizeText n
-angleText (negsuc n) = 45 ∷ sizeText (suc n)
+angleText (negsuc n) = hyphen ∷ sizeText (suc n)
 
 -- THE CALL
 
@@ -81,7 +93,7 @@ worked minus x y = x -ℤ y
 
 -- 359:59
 abbrev pub maxMinutes : ℕ
-maxMinutes = 21599
+maxMinutes = minutesInDegree * maxDegrees + lastMinute
 
 -- "result beyond 359:59 either way"
 abbrev pub inRange : ℤ → Angled
@@ -94,4 +106,4 @@ angledOf op none y = notAngles
 
 -- the two angles stand on both sides of the first byte 32
 abbrev pub angled : Operation → Bytes → Angled
-angled op text = angledOf op (angleIn (cutBefore 32 text)) (angleIn (cutAfter 32 text))
+angled op text = angledOf op (angleIn (cutBefore space text)) (angleIn (cutAfter space text))

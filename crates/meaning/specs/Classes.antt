@@ -6,6 +6,7 @@ use mathlib.Core.Bool.{Bool, true, false}
 use mathlib.Core.List.{List, [], _∷_}
 use lib.Dec.{leb, eqb}
 use Rattle.meaning.specs.Choice.{Name, both, either}
+use Rattle.meaning.specs.Ascii.{tab, lineFeed, carriageReturn, space}
 
 pub data Class : Type 0 where
   digit upper lower alphabetic blank : Class
@@ -14,12 +15,18 @@ pub data Class : Type 0 where
 abbrev pub within : ℕ → ℕ → ℕ → Bool
 within low high b = both (leb low b) (leb b high)
 
+abbrev pub isUpper : ℕ → Bool
+isUpper b = within 65 90 b
+
+abbrev pub isLower : ℕ → Bool
+isLower b = within 97 122 b
+
 abbrev pub inClass : Class → ℕ → Bool
 inClass digit b = within 48 57 b
-inClass upper b = within 65 90 b
-inClass lower b = within 97 122 b
-inClass alphabetic b = either (within 65 90 b) (within 97 122 b)
-inClass blank b = either (either (eqb b 32) (eqb b 9)) (either (eqb b 10) (eqb b 13))
+inClass upper b = isUpper b
+inClass lower b = isLower b
+inClass alphabetic b = either (isUpper b) (isLower b)
+inClass blank b = either (either (eqb b space) (eqb b tab)) (either (eqb b lineFeed) (eqb b carriageReturn))
 
 -- what is asked is so, or is not so, as expected
 abbrev pub sameTruth : Bool → Bool → Bool
@@ -63,4 +70,4 @@ classes = digit ∷ upper ∷ lower ∷ alphabetic ∷ blank ∷ []
 
 -- what may stand between tokens: 01 'Table text', "Blanks are 32, 9, 10 and 13"
 abbrev pub isBlankByte : ℕ → Bool
-isBlankByte b = either (either (eqb b 32) (eqb b 9)) (either (eqb b 10) (eqb b 13))
+isBlankByte b = either (either (eqb b space) (eqb b tab)) (either (eqb b lineFeed) (eqb b carriageReturn))

@@ -8,6 +8,7 @@ use mathlib.Core.Bool.{Bool, true, false}
 use mathlib.Core.List.{List, [], _∷_, _++_, map}
 use mathlib.Core.Option.{some}
 use Rattle.meaning.specs.Choice.{Bytes, Name}
+use Rattle.meaning.specs.Ascii.{smallE, smallS, capitalT, capitalF}
 use Rattle.meaning.specs.Classes.{Class}
 use Rattle.meaning.specs.Tree.{character, symbol, Element, letter, part, Subject, ofSymbol, ofPart, Condition}
 use Rattle.meaning.specs.Tree.{Expression, end, thenCharacter, thenSymbol, thenPart, thenCall, Sentence, Function}
@@ -15,6 +16,7 @@ use Rattle.meaning.specs.Tree.{Table}
 use Rattle.meaning.specs.Names.{predicateOf}
 use Rattle.meaning.specs.Tokens.{Token, functionName, word, quoted, sign, textEnd, Placed, Item, characters}
 use Rattle.meaning.specs.Tokens.{symbolItem, partItem, noItem}
+use Rattle.meaning.specs.Tokens.{leftBrace, rightBrace, semicolon, comma, colon, equals, lessThan, greaterThan}
 
 abbrev pub standing : Token → ℕ → ℕ → Placed
 standing token place past = record { token = token; place = place; past = past }
@@ -24,18 +26,21 @@ standing token place past = record { token = token; place = place; past = past }
 -- "s-Переменная = "s" Идентификатор", "е-Переменная = "e" Идентификатор", "Идентификатор = (латинСимвол | цифра)
 -- {латинСимвол | цифра}": a word of at least two bytes; that the others are letters and digits is the tokens' rule
 abbrev pub symbolWord : ℕ → Bytes → Token
-symbolWord b x = word (115 ∷ b ∷ x)
+symbolWord b x = word (smallS ∷ b ∷ x)
 
 abbrev pub partWord : ℕ → Bytes → Token
-partWord b x = word (101 ∷ b ∷ x)
+partWord b x = word (smallE ∷ b ∷ x)
 
 -- the closing string of a condition "is exactly those three bytes": 'T' or 'F'
 abbrev pub truthByte : Bool → ℕ
-truthByte true = 84
-truthByte false = 70
+truthByte true = capitalT
+truthByte false = capitalF
+
+abbrev pub truthLength : ℕ
+truthLength = 3
 
 abbrev pub truthString : Bool → ℕ → Placed
-truthString truth place = standing (quoted (truthByte truth ∷ [])) place (place + 3)
+truthString truth place = standing (quoted (truthByte truth ∷ [])) place (place + truthLength)
 
 -- PATTERNS
 
@@ -98,11 +103,11 @@ pub data IsCondition : List Placed → Condition → List Placed → Type 0 wher
       → predicateOf n ≡ some class
       → IsSubject t v
       → IsCondition
-      (standing (sign 60) at₁ past₁
+      (standing (sign lessThan) at₁ past₁
       ∷ standing (functionName n) at₂ past₂
       ∷ standing t at₃ past₃
-      ∷ standing (sign 62) at₄ past₄
-      ∷ standing (sign 58) at₅ past₅
+      ∷ standing (sign greaterThan) at₄ past₄
+      ∷ standing (sign colon) at₅ past₅
       ∷ truthString truth at₆
       ∷ rest)
       (record { predicate = class; subject = v; expected = truth })
@@ -114,7 +119,7 @@ pub data IsConditions : List Placed → List Condition → List Placed → Type 
   conditionThen : {ts ts₁ rest : List Placed} {place past : ℕ} {c : Condition} {cs : List Condition}
       → IsCondition ts c ts₁
       → IsConditions ts₁ cs rest
-      → IsConditions (standing (sign 44) place past ∷ ts) (c ∷ cs) rest
+      → IsConditions (standing (sign comma) place past ∷ ts) (c ∷ cs) rest
 
 -- EXPRESSIONS
 
@@ -137,9 +142,10 @@ pub data IsExpression : List Placed → Expression → List Placed → Type 0 wh
       → IsExpression ts e rest
       → IsExpression (standing (partWord b x) place past ∷ ts) (thenPart (b ∷ x) e) rest
   callThen : {ts ts₁ rest : List Placed} {at₁ past₁ at₂ past₂ at₃ past₃ : ℕ} {n : Name} {a e : Expression}
-      → IsExpression ts a (standing (sign 62) at₃ past₃ ∷ ts₁)
+      → IsExpression ts a (standing (sign greaterThan) at₃ past₃ ∷ ts₁)
       → IsExpression ts₁ e rest
-      → IsExpression (standing (sign 60) at₁ past₁ ∷ standing (functionName n) at₂ past₂ ∷ ts) (thenCall at₂ n a e) rest
+      → IsExpression
+      (standing (sign lessThan) at₁ past₁ ∷ standing (functionName n) at₂ past₂ ∷ ts) (thenCall at₂ n a e) rest
 
 -- SENTENCES, FUNCTIONS, THE PROGRAM
 
@@ -148,20 +154,20 @@ pub data IsSentence : List Placed → Sentence → List Placed → Type 0 where
   isSentence : {ts ts₁ ts₂ rest : List Placed} {place past : ℕ} {p : List Element} {cs : List Condition}
       {e : Expression}
       → IsPattern ts p ts₁
-      → IsConditions ts₁ cs (standing (sign 61) place past ∷ ts₂)
+      → IsConditions ts₁ cs (standing (sign equals) place past ∷ ts₂)
       → IsExpression ts₂ e rest
       → IsSentence ts (record { pattern = p; conditions = cs; expression = e }) rest
 
 -- "Предложение { ";" Предложение } [";"] "}""
 pub data IsSentences : List Placed → List Sentence → List Placed → Type 0 where
   lastSentence : {ts rest : List Placed} {place past : ℕ} {s : Sentence}
-      → IsSentence ts s (standing (sign 125) place past ∷ rest)
+      → IsSentence ts s (standing (sign rightBrace) place past ∷ rest)
       → IsSentences ts (s ∷ []) rest
   lastSentenceParted : {ts rest : List Placed} {place past place₁ past₁ : ℕ} {s : Sentence}
-      → IsSentence ts s (standing (sign 59) place past ∷ standing (sign 125) place₁ past₁ ∷ rest)
+      → IsSentence ts s (standing (sign semicolon) place past ∷ standing (sign rightBrace) place₁ past₁ ∷ rest)
       → IsSentences ts (s ∷ []) rest
   sentenceThen : {ts ts₁ rest : List Placed} {place past : ℕ} {s : Sentence} {ss : List Sentence}
-      → IsSentence ts s (standing (sign 59) place past ∷ ts₁)
+      → IsSentence ts s (standing (sign semicolon) place past ∷ ts₁)
       → IsSentences ts₁ ss rest
       → IsSentences ts (s ∷ ss) rest
 
@@ -170,7 +176,7 @@ pub data IsFunction : List Placed → Function → List Placed → Type 0 where
   isFunction : {ts rest : List Placed} {at₁ past₁ at₂ past₂ : ℕ} {n : Name} {ss : List Sentence}
       → IsSentences ts ss rest
       → IsFunction
-      (standing (functionName n) at₁ past₁ ∷ standing (sign 123) at₂ past₂ ∷ ts)
+      (standing (functionName n) at₁ past₁ ∷ standing (sign leftBrace) at₂ past₂ ∷ ts)
       (record { name = n; sentences = ss })
       rest
 
@@ -182,6 +188,6 @@ pub data IsProgram : List Placed → Table → Type 0 where
       → IsProgram ts₁ t
       → IsProgram ts (f ∷ t)
   functionPartedThen : {ts ts₁ : List Placed} {place past : ℕ} {f : Function} {t : Table}
-      → IsFunction ts f (standing (sign 59) place past ∷ ts₁)
+      → IsFunction ts f (standing (sign semicolon) place past ∷ ts₁)
       → IsProgram ts₁ t
       → IsProgram ts (f ∷ t)

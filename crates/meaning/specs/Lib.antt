@@ -1,15 +1,16 @@
 -- The definitions, in the order in which they build on each other.
 pub mod Choice
+pub mod Ascii
 pub mod Classes
 pub mod Numerals
 pub mod Angles
 pub mod Tree
 pub mod Names
+pub mod Allowed
 pub mod Answers
 pub mod Outcome
 pub mod Rewriting
 pub mod Fits
-pub mod Allowed
 pub mod Instructions
 pub mod Matching
 pub mod Machine

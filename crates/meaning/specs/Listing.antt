@@ -5,11 +5,15 @@ use mathlib.Core.Bool.{Bool, true, false, not}
 use mathlib.Core.List.{List, [], _∷_, _++_}
 use lib.Dec.{eqb}
 use Rattle.meaning.specs.Choice.{Bytes, Name, pick, both, either}
+use Rattle.meaning.specs.Ascii.{tab, lineFeed, space, singleQuote, comma, colon, semicolon, lessThan, equals}
+use Rattle.meaning.specs.Ascii.{greaterThan, backslash, smallE, smallN, smallS, smallT, leftBrace, rightBrace}
 pub use Rattle.meaning.specs.Numerals.{decimal}
 use Rattle.meaning.specs.Classes.{className, inClass, digit, within}
 use Rattle.meaning.specs.Tree.{character, symbol, Element, letter, part, Subject, ofSymbol, ofPart, Condition}
 use Rattle.meaning.specs.Tree.{Expression, end, thenCharacter, thenSymbol, thenPart, thenCall, Sentence, Function}
 use Rattle.meaning.specs.Tree.{Table}
+-- "the three escaped ones"
+pub use Rattle.meaning.specs.Tokens.{isEscaped}
 use Rattle.meaning.specs.Grammar.{truthByte}
 
 -- CHARACTERS
@@ -25,32 +29,28 @@ isAfterCode afterCode = true
 
 -- "Items are parted by one blank": it stands before each item
 abbrev pub openQuote : Quoted → Bytes
-openQuote unquoted = 32 ∷ 39 ∷ []
+openQuote unquoted = space ∷ singleQuote ∷ []
 openQuote inString = []
 openQuote afterCode = []
 
 abbrev pub closeQuote : Quoted → Bytes
 closeQuote unquoted = []
-closeQuote inString = 39 ∷ []
-closeQuote afterCode = 39 ∷ []
-
--- "the three escaped ones": a byte with a `\` before it
-abbrev pub isEscaped : ℕ → Bool
-isEscaped c = either (eqb c 39) (either (eqb c 34) (eqb c 92))
+closeQuote inString = singleQuote ∷ []
+closeQuote afterCode = singleQuote ∷ []
 
 -- "Bytes 32 to 126 stand bare but for the three escaped ones; 9 and 10 use \t, \n; others use shortest codes, and a
 -- digit right after a code is a code too."
 abbrev pub isCoded : Quoted → ℕ → Bool
 isCoded state c =
-    both (not (either (eqb c 9) (eqb c 10)))
+    both (not (either (eqb c tab) (eqb c lineFeed)))
     (either (not (within 32 126 c)) (both (isAfterCode state) (inClass digit c)))
 
 abbrev pub characterText : Quoted → ℕ → Bytes
 characterText state c =
-    pick (isCoded state c) (92 ∷ decimal c)
-    (pick (isEscaped c) (92 ∷ c ∷ [])
-    (pick (eqb c 9) (92 ∷ 116 ∷ [])
-    (pick (eqb c 10) (92 ∷ 110 ∷ [])
+    pick (isCoded state c) (backslash ∷ decimal c)
+    (pick (isEscaped c) (backslash ∷ c ∷ [])
+    (pick (eqb c tab) (backslash ∷ smallT ∷ [])
+    (pick (eqb c lineFeed) (backslash ∷ smallN ∷ [])
     (c ∷ []))))
 
 abbrev pub afterCharacter : Quoted → ℕ → Quoted
@@ -63,10 +63,10 @@ quotedCharacter state c = openQuote state ++ characterText state c
 
 -- an s-variable and an e-variable after a blank
 abbrev pub symbolText : Name → Bytes
-symbolText x = 32 ∷ 115 ∷ x
+symbolText x = space ∷ smallS ∷ x
 
 abbrev pub partText : Name → Bytes
-partText x = 32 ∷ 101 ∷ x
+partText x = space ∷ smallE ∷ x
 
 unfoldable pub patternText : Quoted → List Element → Bytes
 patternText state [] = closeQuote state
@@ -81,8 +81,9 @@ subjectText (ofPart x) = partText x
 -- `, <Predicate sX>: 'T'`, "with none before `,` `;` `:` `>`"
 abbrev pub conditionText : Condition → Bytes
 conditionText c =
-    44 ∷ 32 ∷ 60 ∷ (className (c .predicate)
-    ++ (subjectText (c .subject) ++ 62 ∷ 58 ∷ 32 ∷ 39 ∷ truthByte (c .expected) ∷ 39 ∷ []))
+    comma ∷ space ∷ lessThan ∷ (className (c .predicate)
+    ++ (subjectText (c .subject)
+    ++ greaterThan ∷ colon ∷ space ∷ singleQuote ∷ truthByte (c .expected) ∷ singleQuote ∷ []))
 
 unfoldable pub conditionsText : List Condition → Bytes
 conditionsText [] = []
@@ -94,27 +95,28 @@ expressionText state (thenCharacter c e) = quotedCharacter state c ++ expression
 expressionText state (thenSymbol x e) = closeQuote state ++ (symbolText x ++ expressionText unquoted e)
 expressionText state (thenPart x e) = closeQuote state ++ (partText x ++ expressionText unquoted e)
 expressionText state (thenCall place n a e) =
-    closeQuote state ++ 32 ∷ 60 ∷ (n ++ (expressionText unquoted a ++ 62 ∷ expressionText unquoted e))
+    closeQuote state ++ space ∷ lessThan ∷ (n ++ (expressionText unquoted a ++ greaterThan ∷ expressionText unquoted e))
 
 -- SENTENCES AND FUNCTIONS
 
 -- no blank stands at the beginning of a line
 abbrev pub withoutBlank : Bytes → Bytes
 withoutBlank [] = []
-withoutBlank (b ∷ line) = pick (eqb b 32) line (b ∷ line)
+withoutBlank (b ∷ line) = pick (eqb b space) line (b ∷ line)
 
 abbrev pub sentenceText : Sentence → Bytes
 sentenceText s =
     withoutBlank
     (patternText unquoted (s .pattern)
-    ++ (conditionsText (s .conditions) ++ 32 ∷ 61 ∷ (expressionText unquoted (s .expression) ++ 59 ∷ 10 ∷ [])))
+    ++ (conditionsText (s .conditions)
+    ++ space ∷ equals ∷ (expressionText unquoted (s .expression) ++ semicolon ∷ lineFeed ∷ [])))
 
 unfoldable pub sentencesText : List Sentence → Bytes
 sentencesText [] = []
 sentencesText (s ∷ ss) = sentenceText s ++ sentencesText ss
 
 abbrev pub functionText : Function → Bytes
-functionText f = f .name ++ 32 ∷ 123 ∷ 10 ∷ (sentencesText (f .sentences) ++ 125 ∷ 10 ∷ [])
+functionText f = f .name ++ space ∷ leftBrace ∷ lineFeed ∷ (sentencesText (f .sentences) ++ rightBrace ∷ lineFeed ∷ [])
 
 unfoldable pub listing : Table → Bytes
 listing [] = []

@@ -11,6 +11,7 @@ use lib.Dec.{leb, ltb}
 use lib.ListN.{length, take, drop}
 use Rattle.meaning.specs.Choice.{Bytes, both, nth, numbered}
 use Rattle.meaning.specs.Angles.{angled}
+use Rattle.meaning.specs.Allowed.{maxNesting}
 use Rattle.meaning.specs.Answers.{noSentenceFits, allowanceSpent, noInstruction}
 use Rattle.meaning.specs.Outcome.{Tally, pay, emitted, emittedLine, Outcome, done, stop, andThen, computed}
 use Rattle.meaning.specs.Instructions.{Length, null, whole, left, right, Span, Action, go, select, out, outC}
@@ -50,9 +51,9 @@ pub record Local : Type 0 where
   pub values : Bytes
   pub opened : List ℕ
 
--- at most so many sequences are open in one application: a call is one, and calls stand at most 16 one inside another
+-- at most so many sequences are open in one application: a call is one, and so many calls stand one inside another
 abbrev pub maxOpened : ℕ
-maxOpened = 16
+maxOpened = maxNesting
 
 abbrev pub registerOf : Length → Local → ℕ
 registerOf null l = 0

@@ -11,7 +11,7 @@ use Rattle.meaning.specs.Choice.{pick, both, every}
 use Rattle.meaning.specs.Angles.{Operation, plus, minus}
 use Rattle.meaning.specs.Classes.{Class, digit, upper, lower, alphabetic, blank, classNumber}
 use Rattle.meaning.specs.Classes.{digitNumber, upperNumber, lowerNumber, alphabeticNumber, blankNumber}
-use Rattle.meaning.specs.Allowed.{isByte}
+use Rattle.meaning.specs.Allowed.{maxSymbols, isByte}
 use Rattle.meaning.specs.Instructions.{Site, fromStart, fromEnd, fromPlace, Test, look, compare, predicate}
 use Rattle.meaning.specs.Instructions.{predicatePart, unknownTest, Store, store, unknownStore, Length, null}
 use Rattle.meaning.specs.Instructions.{whole, left, right, Span, Action, go, select, out, outC, outV, beginSeq}
@@ -372,7 +372,7 @@ unpackStores (suc n) (w ∷ ws) = storeOf w ∷ unpackStores n ws
 
 -- an application stores no more values than a pattern may have different s-variables
 abbrev pub maxStored : ℕ
-maxStored = 16
+maxStored = maxSymbols
 
 abbrev pub bodyOf : Metric → ℕ → Words → Sentences → Sentences
 bodyOf metric v ws more =
@@ -417,8 +417,8 @@ pack code = length code ∷ placesFrom (suc (length code)) code ++ packFunctions
 abbrev pub functionsAt : Words → Words → Code
 functionsAt ws places = map (λ at. unpackSentences 0 (drop at ws)) places
 
--- "The function table is sound when the code has its count word, an entry for each function, and each entry names a
--- place inside the code"
+-- the function table has an entry for each function, and each names a place inside the code: decision 19 of
+-- docs/DECISIONS.md
 abbrev pub soundTable : Words → Words → ℕ → Bool
 soundTable ws rest count = both (leb count (length rest)) (every (λ at. ltb at (length ws)) (take count rest))
 

@@ -18,9 +18,10 @@ use Rattle.meaning.specs.Allowed.{maxTable, maxFunctions, maxSentences, 
 use Rattle.meaning.specs.Allowed.{maxSymbols, maxConditions, maxItems, maxNesting, member, added, symbolsOf}
 use Rattle.meaning.specs.Allowed.{partsOf, lettersIn, comingAfter, namesOf}
 use Rattle.meaning.specs.Tokens.{Token, functionName, word, quoted, sign, textEnd, malformed, Placed, tokens}
+use Rattle.meaning.specs.Tokens.{leftBrace, rightBrace, semicolon, comma, colon, equals, lessThan, greaterThan}
 pub use Rattle.meaning.specs.Tokens.{isSign, isTextEnd, nameOf, Item, characters, symbolItem, partItem, noItem}
 pub use Rattle.meaning.specs.Tokens.{variableOf, itemOf, isItem, begins}
-use Rattle.meaning.specs.Grammar.{thenCharacters}
+use Rattle.meaning.specs.Grammar.{truthByte, truthLength, thenCharacters}
 pub use Rattle.meaning.specs.Grammar.{elementsOf}
 
 -- what every reader comes to: the number and place of a fault, or what was read and the tokens after it
@@ -146,7 +147,9 @@ passSubject symbols parts [] next = cutShort
 passSubject symbols parts (t ∷ ts) next = subjectOn (itemOf (t .token)) symbols parts t (λ v. next v ts)
 
 abbrev pub truthIn : Bytes → Option Bool
-truthIn text = pick (sameBytes text (84 ∷ [])) (some true) (pick (sameBytes text (70 ∷ [])) (some false) none)
+truthIn text =
+    pick (sameBytes text (truthByte true ∷ [])) (some true)
+    (pick (sameBytes text (truthByte false ∷ [])) (some false) none)
 
 -- "the closing string is exactly those three bytes, and any other well formed string there is refused with 3"
 abbrev pub truthOf : Token → Bool → Option Bool
@@ -163,31 +166,32 @@ truthOn (some truth) t next = next truth
 
 abbrev pub passTruth : {A : Type 0} → List Placed → (Bool → List Placed → Parsed A) → Parsed A
 passTruth [] next = cutShort
-passTruth (t ∷ ts) next = truthOn (truthOf (t .token) (eqb (t .past) (t .place + 3))) t (λ truth. next truth ts)
+passTruth (t ∷ ts) next =
+    truthOn (truthOf (t .token) (eqb (t .past) (t .place + truthLength))) t (λ truth. next truth ts)
 
 -- "`, <Predicate sX>: 'T'` or `'F'`, on an s-variable of the pattern", or on an e-variable of it, after its `,`
 unfoldable pub parseCondition : List Name → List Name → List Placed → Parsed Condition
 parseCondition symbols parts ts =
-    pass 60 ts λ ts₁.
+    pass lessThan ts λ ts₁.
     passName (λ n. lengthFault n 0) ts₁ λ place n ts₂.
     withClass (predicateOf n) place λ class.
     passSubject symbols parts ts₂ λ v ts₃.
-    pass 62 ts₃ λ ts₄.
-    pass 58 ts₄ λ ts₅.
+    pass greaterThan ts₃ λ ts₄.
+    pass colon ts₄ λ ts₅.
     passTruth ts₅ λ truth rest.
     parsed (record { predicate = class; subject = v; expected = truth }) rest
 
 -- a condition is read where a `,` stands
 abbrev pub atComma : List Placed → (Placed → List Placed → Parsed (List Condition)) → Parsed (List Condition)
 atComma [] next = cutShort
-atComma (t ∷ ts) next = let later = next t ts in pick (isSign 44 (t .token)) later (parsed [] (t ∷ ts))
+atComma (t ∷ ts) next = let later = next t ts in pick (isSign comma (t .token)) later (parsed [] (t ∷ ts))
 
--- conditions, of which so many may still come; "a condition over its limit is refused at its first token (a condition's
--- is `,`)"
+-- conditions, of which so many may still come; "A sentence or condition over its limit is refused at its first token (a
+-- condition's is `,`)"
 unfoldable pub parseConditions : ℕ → List Name → List Name → List Placed → Parsed (List Condition)
-parseConditions zero symbols parts ts = atComma ts λ comma rest. stopped overLimit (comma .place)
+parseConditions zero symbols parts ts = atComma ts λ t rest. stopped overLimit (t .place)
 parseConditions (suc left) symbols parts ts =
-    atComma ts λ comma ts₁.
+    atComma ts λ t ts₁.
     follow (parseCondition symbols parts ts₁) λ c ts₂.
     follow (parseConditions left symbols parts ts₂) λ cs rest.
     parsed (c ∷ cs) rest
@@ -271,7 +275,7 @@ parseCall argument depth so t ts =
     let later : Parsed Called =
     passName calledFault ts λ place n ts₁.
     follow (argument (suc depth) (pastCall so) ts₁) λ given ts₂.
-    pass 62 ts₂ λ rest.
+    pass greaterThan ts₂ λ rest.
     parsed (record { place = place; name = n; argument = given .expression; progress = given .progress }) rest
     in
     whereFaultless (callFault depth so) t later
@@ -287,7 +291,7 @@ parseExpressionFrom next symbols depth so t ts =
     withFirst (thenCall (c .place) (c .name) (c .argument)) (next depth (c .progress) rest)
     in
     pick (isItem item) (whereFaultless (itemFault symbols so item) t afterItem)
-    (pick (isSign 60 (t .token)) afterCall (parsed (record { expression = end; progress = so }) (t ∷ ts)))
+    (pick (isSign lessThan (t .token)) afterCall (parsed (record { expression = end; progress = so }) (t ∷ ts)))
 
 -- An expression that so many calls stand round. Each step eats a token, so a bound of the number of tokens is never
 -- reached (proved in proofs/reading).
@@ -304,7 +308,7 @@ unfoldable pub parseSentence : List Placed → Parsed Sentence
 parseSentence ts =
     follow (parsePattern [] ts) λ p ts₁.
     follow (parseConditions maxConditions (symbolsOf p) (partsOf p) ts₁) λ cs ts₂.
-    pass 61 ts₂ λ ts₃.
+    pass equals ts₂ λ ts₃.
     follow (parseExpression (length ts₃) (symbolsOf p) 0 (record { items = 0; coming = partsOf p }) ts₃) λ e rest.
     parsed (record { pattern = p; conditions = cs; expression = e .expression }) rest
 
@@ -318,14 +322,14 @@ abbrev pub afterSemicolon : (List Placed → Parsed (List Sentence)) → Sentenc
 afterSemicolon more s [] = cutShort
 afterSemicolon more s (t ∷ ts) =
     let another = follow (more (t ∷ ts)) λ ss rest. parsed (s ∷ ss) rest in
-    pick (isSign 125 (t .token)) (parsed (s ∷ []) ts) another
+    pick (isSign rightBrace (t .token)) (parsed (s ∷ []) ts) another
 
 -- after a sentence comes `}` or `;`
 abbrev pub afterSentence : (List Placed → Parsed (List Sentence)) → Sentence → List Placed → Parsed (List Sentence)
 afterSentence more s [] = cutShort
 afterSentence more s (t ∷ ts) =
     let another = afterSemicolon more s ts in
-    pick (isSign 125 (t .token)) (parsed (s ∷ []) ts) (whether (isSign 59 (t .token)) t another)
+    pick (isSign rightBrace (t .token)) (parsed (s ∷ []) ts) (whether (isSign semicolon (t .token)) t another)
 
 -- The sentences of a function from its `{` to its `}`, of which so many may still come: "sentences parted by `;`,
 -- perhaps one more `;`, `}`"; "a sentence ... over its limit is refused at its first token".
@@ -339,7 +343,7 @@ parseSentences (suc left) ts =
 -- "perhaps `;`"
 abbrev pub passSpare : List Placed → List Placed
 passSpare [] = []
-passSpare (t ∷ ts) = pick (isSign 59 (t .token)) ts (t ∷ ts)
+passSpare (t ∷ ts) = pick (isSign semicolon (t .token)) ts (t ∷ ts)
 
 -- "declared twice, reserved" are refused with 5
 abbrev pub declaredFault : Table → Name → ℕ
@@ -350,7 +354,7 @@ declaredFault before n =
 abbrev pub parseFunction : (Name → ℕ) → ℕ → List Placed → Parsed Function
 parseFunction fault sentencesLeft ts =
     passName fault ts λ place n ts₁.
-    pass 123 ts₁ λ ts₂.
+    pass leftBrace ts₁ λ ts₂.
     follow (parseSentences sentencesLeft ts₂) λ ss rest.
     parsed (record { name = n; sentences = ss }) rest
 
@@ -405,7 +409,7 @@ abbrev pub known : Option ℕ → Table → Read
 known none t = accepted t
 known (some place) t = refused undeclaredName place
 
--- "after reading: first called name that is undeclared"
+-- after reading, the "first called name that is undeclared"
 abbrev pub verdict : Parsed Table → Read
 verdict (stopped number place) = refused number place
 verdict (parsed t rest) = known (unknownIn t t) t

@@ -206,7 +206,7 @@ rewritten table apply number text none t = unfitted apply (recovererAt table num
 rewritten table apply number text (some f) t =
     evaluate (callNamed table apply) (f .bindings) (f .fitting .expression) t
 
--- "the first application past the allowance ends the run"; "one answered 12 ... doesn't" count as a step
+-- "the first application past the allowance ... ends the run"; "one answered 12 ... doesn't" count as a step
 abbrev pub applied : Table → Applying ℕ → ℕ → Bytes → Course → Option Course → Outcome Bytes Course
 applied table apply number text t none = stop allowanceSpent 0 t
 applied table apply number text t (some paid) =

@@ -8,6 +8,10 @@ use mathlib.Core.Option.{Option, none, some}
 use lib.Dec.{ltb, eqb}
 use lib.ListN.{length}
 use Rattle.meaning.specs.Choice.{Bytes, Name, pick, both, either}
+use Rattle.meaning.specs.Ascii.{tab, lineFeed, doubleQuote, singleQuote, asterisk, slash, digitZero}
+use Rattle.meaning.specs.Ascii.{backslash, smallE, smallN, smallS, smallT}
+-- the signs of the grammar
+pub use Rattle.meaning.specs.Ascii.{leftBrace, rightBrace, semicolon, comma, colon, equals, lessThan, greaterThan}
 use Rattle.meaning.specs.Classes.{inClass, digit, alphabetic, isBlankByte}
 use Rattle.meaning.specs.Allowed.{wordByte, nameByte}
 
@@ -15,32 +19,6 @@ use Rattle.meaning.specs.Allowed.{wordByte, nameByte}
 -- there is a letter and the letters and digits after it".
 pub data Mode : Type 0 where
   outside inside naming : Mode
-
--- the signs of the grammar
-abbrev pub leftBrace : ℕ
-leftBrace = 123
-
-abbrev pub rightBrace : ℕ
-rightBrace = 125
-
-abbrev pub semicolon : ℕ
-semicolon = 59
-
-abbrev pub comma : ℕ
-comma = 44
-
-abbrev pub colon : ℕ
-colon = 58
-
-abbrev pub equals : ℕ
-equals = 61
-
--- they stand round a call
-abbrev pub lessThan : ℕ
-lessThan = 60
-
-abbrev pub greaterThan : ℕ
-greaterThan = 62
 
 pub data Token : Type 0 where
   -- "a letter, then letters, digits, _ or -"
@@ -88,10 +66,11 @@ pub data Gap : Type 0 where
 -- The byte at a place belongs to the gap, and how the gap goes on; or a token begins with it.
 abbrev pub gapAfter : Gap → ℕ → ℕ → Bytes → Option Gap
 gapAfter between at b rest =
-    pick (isBlankByte b) (some between) (pick (both (eqb b 47) (ahead (eqb 42) rest)) (some (opening at)) none)
-gapAfter (opening slash) at b rest = some (commented slash)
-gapAfter (commented slash) at b rest = some (pick (eqb b 42) (starred slash) (commented slash))
-gapAfter (starred slash) at b rest = some (pick (eqb b 47) between (pick (eqb b 42) (starred slash) (commented slash)))
+    pick (isBlankByte b) (some between) (pick (both (eqb b slash) (ahead (eqb asterisk) rest)) (some (opening at)) none)
+gapAfter (opening start) at b rest = some (commented start)
+gapAfter (commented start) at b rest = some (pick (eqb b asterisk) (starred start) (commented start))
+gapAfter (starred start) at b rest =
+    some (pick (eqb b slash) between (pick (eqb b asterisk) (starred start) (commented start)))
 
 -- a token begins at a place, with the bytes from there; or the comment that begins at a place has no end in the text,
 -- which ends at another
@@ -101,9 +80,9 @@ pub data Skipped : Type 0 where
 
 abbrev pub skippedEnd : Gap → ℕ → Skipped
 skippedEnd between at = found at []
-skippedEnd (opening slash) at = unclosed slash at
-skippedEnd (commented slash) at = unclosed slash at
-skippedEnd (starred slash) at = unclosed slash at
+skippedEnd (opening start) at = unclosed start at
+skippedEnd (commented start) at = unclosed start at
+skippedEnd (starred start) at = unclosed start at
 
 abbrev pub skipOn : Option Gap → (Gap → Skipped) → Skipped → Skipped
 skipOn none next stays = stays
@@ -156,25 +135,29 @@ pub data Turn : Type 0 where
 -- "A bare double quote is forbidden. Other bytes stand for themselves."
 abbrev pub plainTurn : Bytes → ℕ → Turn
 plainTurn characters b =
-    pick (eqb b 39) (closes characters)
-    (pick (eqb b 34) breaks
-    (pick (eqb b 92) (goesOn escaped characters)
+    pick (eqb b singleQuote) (closes characters)
+    (pick (eqb b doubleQuote) breaks
+    (pick (eqb b backslash) (goesOn escaped characters)
     (goesOn plain (characters ++ b ∷ []))))
 
 abbrev pub digitValue : ℕ → ℕ
-digitValue b = b - 48
+digitValue b = b - digitZero
 
 -- "decimal digits as long as they go (0 to 255)"
 abbrev pub codeTurn : ℕ → Bytes → Turn
 codeTurn code characters = pick (ltb code 256) (goesOn (coded code) characters) breaks
 
+-- a byte that stands for itself after a `\`: "\', \", \\"
+abbrev pub isEscaped : ℕ → Bool
+isEscaped b = either (eqb b singleQuote) (either (eqb b doubleQuote) (eqb b backslash))
+
 -- "Escapes: \', \", \\, \n (10), \t (9), \ with decimal digits ..., and \ before byte 10, which gives nothing."
 abbrev pub escapedTurn : Bytes → ℕ → Turn
 escapedTurn characters b =
-    pick (either (eqb b 39) (either (eqb b 34) (eqb b 92))) (goesOn plain (characters ++ b ∷ []))
-    (pick (eqb b 110) (goesOn plain (characters ++ 10 ∷ []))
-    (pick (eqb b 116) (goesOn plain (characters ++ 9 ∷ []))
-    (pick (eqb b 10) (goesOn plain characters)
+    pick (isEscaped b) (goesOn plain (characters ++ b ∷ []))
+    (pick (eqb b smallN) (goesOn plain (characters ++ lineFeed ∷ []))
+    (pick (eqb b smallT) (goesOn plain (characters ++ tab ∷ []))
+    (pick (eqb b lineFeed) (goesOn plain characters)
     (pick (inClass digit b) (codeTurn (digitValue b) characters) breaks))))
 
 abbrev pub turn : Quoting → Bytes → ℕ → Turn
@@ -199,7 +182,7 @@ quotation state characters at [] = broken at []
 quotation state characters at (b ∷ rest) =
     quoteOn (turn state characters b) (λ next longer. quotation next longer (suc at) rest) (suc at) rest
 
--- "any fault inside a string" stands at its opening quote
+-- a fault inside a string stands at its opening quote: decision 4 of docs/DECISIONS.md
 abbrev pub quotedAt : ℕ → Quotation → Lexed
 quotedAt at (closed characters past rest) = lexed (quoted characters) at past rest
 quotedAt at (broken past rest) = lexed malformed at past rest
@@ -216,13 +199,13 @@ abbrev pub tokenAt : Mode → ℕ → Bytes → Lexed
 tokenAt mode at [] = lexed textEnd at at []
 tokenAt mode at (b ∷ rest) =
     pick (inClass alphabetic b) (wordAt mode at (b ∷ rest))
-    (pick (eqb b 39) (quotedAt at (quotation plain [] (suc at) rest))
+    (pick (eqb b singleQuote) (quotedAt at (quotation plain [] (suc at) rest))
     (pick (eqb b lessThan) (bracketAt at rest (ahead (inClass alphabetic) rest))
     (lexed (sign b) at (suc at) rest)))
 
 abbrev pub tokenPast : Mode → Skipped → Lexed
 tokenPast mode (found at bytes) = tokenAt mode at bytes
-tokenPast mode (unclosed slash textLength) = lexed malformed slash textLength []
+tokenPast mode (unclosed start textLength) = lexed malformed start textLength []
 
 -- the first token from a place on, with the bytes after it
 unfoldable pub lex : Mode → ℕ → Bytes → Lexed
@@ -307,7 +290,7 @@ pub data Item : Type 0 where
 abbrev pub variableOf : Bytes → Item
 variableOf [] = noItem
 variableOf (b ∷ []) = noItem
-variableOf (b ∷ c ∷ x) = pick (eqb b 115) (symbolItem (c ∷ x)) (pick (eqb b 101) (partItem (c ∷ x)) noItem)
+variableOf (b ∷ c ∷ x) = pick (eqb b smallS) (symbolItem (c ∷ x)) (pick (eqb b smallE) (partItem (c ∷ x)) noItem)
 
 -- the item that a token is
 abbrev pub itemOf : Token → Item

@@ -1,8 +1,8 @@
 -- From the tree to instructions: 01 'Machine', "A sentence becomes: its tests (Look, Compare with the first equal
 -- s-variable, Predicate, by pattern then condition order); Store of each different s-variable; then the expression item
--- by item: OutC, OutV, or Go to an e-variable and Out of it. A call is BeginSeq, argument, UseSeq, Select, Call. At the
--- end Go passes the rest of the field. If the last item outermost is a declared call, that Go comes before UseSeq and
--- the call takes the caller's frame".
+-- by item: OutC, OutV, or Go to an e-variable and Out of it. A call is BeginSeq, argument, UseSeq (moves the argument
+-- from out to just below p), Select, Call. At the end Go passes the rest of the field. If the last item outermost is a
+-- declared call, that Go comes before UseSeq and the call takes the caller's frame".
 use Prim.Native.Nat.{ℕ, suc, _+_, _-_}
 use mathlib.Core.Bool.{Bool, true, false}
 use mathlib.Core.List.{List, [], _∷_, _++_, map}

@@ -6,6 +6,7 @@ use mathlib.Core.List.{List, [], _∷_, _++_}
 use lib.Dec.{ltb}
 use lib.ListN.{length}
 use Rattle.meaning.specs.Choice.{Bytes, Name, pick}
+use Rattle.meaning.specs.Ascii.{space, lineFeed, digitZero}
 use Rattle.meaning.specs.Leaving.{over}
 use Rattle.byte_writing.specs.Put.{Put}
 
@@ -14,17 +15,10 @@ unfoldable pub numeralOf : ℕ → ℕ → Bytes
 numeralOf zero n = []
 numeralOf (suc more) n =
     let before = numeralOf more (n / 10) in
-    pick (ltb n 10) [] before ++ (48 + n % 10) ∷ []
+    pick (ltb n 10) [] before ++ (digitZero + n % 10) ∷ []
 
 abbrev pub numeral : ℕ → Bytes
 numeral n = numeralOf (suc n) n
-
--- the bytes after a number or a name
-abbrev pub space : ℕ
-space = 32
-
-abbrev pub lineEnd : ℕ
-lineEnd = 10
 
 -- a number, and the byte after it
 abbrev pub numberThen : ℕ → ℕ → Bytes
@@ -36,18 +30,18 @@ numberCells = 21
 
 -- "For a refused table it prints number and place only"
 abbrev pub refusalText : ℕ → ℕ → Bytes
-refusalText number place = numberThen number space ++ numberThen place lineEnd
+refusalText number place = numberThen number space ++ numberThen place lineFeed
 
 -- "prints answer, function, steps; the record; the result and a line end"
 abbrev pub resultText : ℕ → ℕ → ℕ → Bytes → Bytes → Bytes
 resultText answer function steps emissions text =
     numberThen answer space
-    ++ (numberThen function space ++ (numberThen steps lineEnd ++ (emissions ++ (text ++ lineEnd ∷ []))))
+    ++ (numberThen function space ++ (numberThen steps lineFeed ++ (emissions ++ (text ++ lineFeed ∷ []))))
 
 -- 02, T-01: "After the result the program prints a line for each function in declaration order, with number, name and
 -- applications"
 abbrev pub profileLine : ℕ → Name → ℕ → Bytes
-profileLine number name applications = numberThen number space ++ (name ++ (space ∷ numberThen applications lineEnd))
+profileLine number name applications = numberThen number space ++ (name ++ (space ∷ numberThen applications lineFeed))
 
 -- the lines of functions numbered on after `before`, with as many counts
 unfoldable pub profileLines : ℕ → List Name → List ℕ → Bytes
@@ -61,7 +55,7 @@ abbrev pub totalWord : Bytes
 totalWord = 116 ∷ 111 ∷ 116 ∷ 97 ∷ 108 ∷ space ∷ []
 
 abbrev pub profileText : List Name → List ℕ → ℕ → Bytes
-profileText names counts steps = profileLines 0 names counts ++ (totalWord ++ numberThen steps lineEnd)
+profileText names counts steps = profileLines 0 names counts ++ (totalWord ++ numberThen steps lineFeed)
 
 -- a text stands at the front of the cells, and those after it are as they were
 pub record Prints (text old : Bytes) (count : ℕ) (new : Bytes) : Type 0 where

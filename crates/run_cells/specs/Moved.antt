@@ -1,7 +1,6 @@
 -- What moving an argument from out to in leaves in the cells, byte by byte.
 use Prim.Native.Nat.{ℕ, zero, suc, _+_, _-_, _≤_, _<_}
 use mathlib.Core.Path.{_≡_}
-use mathlib.Core.List.{_++_}
 use lib.ListN.{length, getD, take, drop, set}
 use Rattle.meaning.specs.Choice.{Bytes}
 
@@ -11,12 +10,11 @@ abbrev pub moved : ℕ → Bytes → ℕ → Bytes → ℕ → Bytes
 moved zero input p out r = input
 moved (suc k) input p out r = set (moved k input p out r) (p - suc k) (getD out (r - suc k) 0)
 
--- T-05, after each: k bytes are moved of the argument, which stands on out from `first` up to r
-pub record MovedSoFar (before : Bytes) (p : ℕ) (out : Bytes) (first r k : ℕ) (now : Bytes) : Type 0 where
+-- T-05, after each: k bytes are moved of those that stand on out up to r. That 'the others are still on out' needs no
+-- clause: the functions that move may only read out (`output: &[u8]`), so no cell of it can change.
+pub record MovedSoFar (before : Bytes) (p : ℕ) (out : Bytes) (r k : ℕ) (now : Bytes) : Type 0 where
   -- 'the bytes moved stand in order just below the old p'
   pub inOrder : take k (drop (p - k) now) ≡ drop (r - k) (take r out)
-  -- 'the others are still on out': they, and then those moved, are the argument
-  pub others : drop first (take (r - k) out) ++ take k (drop (p - k) now) ≡ drop first (take r out)
   -- 'no other cell of in has changed'
   pub below : take (p - k) now ≡ take (p - k) before
   pub above : drop p now ≡ drop p before

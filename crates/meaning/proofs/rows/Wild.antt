@@ -5,13 +5,15 @@ use mathlib.Core.Bool.{true}
 use mathlib.Core.List.{List, [], _∷_, _++_, map}
 use lib.ListN.{length, replicate}
 use Rattle.meaning.specs.Choice.{Bytes}
+use Rattle.meaning.specs.Angles.{plus}
 use Rattle.meaning.specs.Classes.{digit, lower}
 use Rattle.meaning.specs.Instructions.{fromStart, fromEnd, fromPlace, Test, look, predicatePart, Store, store, null, whole, left, right, Span}
-use Rattle.meaning.specs.Instructions.{Action, go, select, out, outC, outV, beginSeq, useSeq, call, tailCall, emission, Metric, exactly, ends}
-use Rattle.meaning.specs.Instructions.{Sentences, noMore, sentence}
+use Rattle.meaning.specs.Instructions.{Action, go, select, out, outC, outV, beginSeq, useSeq, call, tailCall, emission, compute}
+use Rattle.meaning.specs.Instructions.{Metric, exactly, ends, Sentences, noMore, sentence}
 use Rattle.meaning.specs.Packing.{Words, codeWord, countsWord, endWord, pack}
 use Rattle.meaning.specs.Leaving.{Cells, Leaving, leaving}
 use Rattle.meaning.proofs.rows.Starred.{result}
+use Rattle.meaning.proofs.rows.Read.{bytes}
 use Rattle.meaning.proofs.rows.Computing.{computing}
 
 pub record Row : Type 0 where
@@ -22,8 +24,25 @@ pub record Row : Type 0 where
 abbrev cells : Bytes → Bytes → Bytes → Cells
 cells i o j = record { stackIn = i; stackOut = o; «record» = j }
 
+-- what each row is lent: so many cells of in and of out, bytes of the record, and steps
+abbrev inSize : ℕ
+inSize = 11
+
+abbrev outSize : ℕ
+outSize = 4
+
+abbrev recordSize : ℕ
+recordSize = 5
+
+abbrev allowance : ℕ
+allowance = 5
+
 abbrev lent : Cells
-lent = cells (replicate 6 7) (replicate 3 8) (replicate 5 9)
+lent = cells (replicate inSize 7) (replicate outSize 8) (replicate recordSize 9)
+
+-- the record after these emissions
+abbrev recordWith : Bytes → Bytes
+recordWith emissions = emissions ++ replicate (recordSize - length emissions) 9
 
 -- a run that stopped with an answer: in and out are zero, and the record has just the emissions from before it
 abbrev stoppedCounting : ℕ → Bytes → ℕ → List ℕ → Bytes → Words → Row
@@ -34,7 +53,7 @@ stoppedCounting answer text steps counts emissions words =
       leaves =
           record {
             result = result answer 0 steps counts [] emissions;
-            cells = cells (replicate 6 0) (replicate 3 0) (emissions ++ replicate (5 - length emissions) 9);
+            cells = cells (replicate inSize 0) (replicate outSize 0) (recordWith emissions);
           };
     }
 
@@ -64,8 +83,7 @@ endedCounting text steps counts emissions given words =
       leaves =
           record {
             result = result 0 0 steps counts given emissions;
-            cells =
-                cells (replicate 6 0) (given ++ replicate (3 - length given) 0) (emissions ++ replicate (5 - length emissions) 9);
+            cells = cells (replicate inSize 0) (given ++ replicate (outSize - length given) 0) (recordWith emissions);
           };
     }
 
@@ -105,7 +123,7 @@ tableRows =
     -- no count
     unchanged [] ∷
     -- two functions, and one entry
-    unchanged (2 ∷ 3 ∷ []) ∷
+    unchanged (2 ∷ 1 ∷ []) ∷
     -- an entry outside the code
     unchanged (1 ∷ 2 ∷ []) ∷
     unchanged (1 ∷ 4294967295 ∷ 272 ∷ 65536 ∷ 15 ∷ 19 ∷ []) ∷ []
@@ -114,7 +132,7 @@ tableRows =
 abbrev matchRows : List Row
 matchRows =
     -- an entry at a word that begins no sentence; a sentence that is cut off
-    wrong (1 ∷ 0 ∷ []) ∷
+    wrong (1 ∷ 0 ∷ 15 ∷ 19 ∷ []) ∷
     wrong (1 ∷ 2 ∷ 272 ∷ []) ∷
     wrong (1 ∷ 2 ∷ 272 ∷ 65537 ∷ []) ∷
     -- a test of another number, a register, a class and a cell that are not there
@@ -170,7 +188,7 @@ actionRows =
     wrong (actions (codeWord 21 2 0 0 ∷ [])) ∷
     -- after an emission, and in a called function
     stoppedWith 18 (97 ∷ []) 1 (65 ∷ 32 ∷ 10 ∷ []) (actions (codeWord 14 1 0 0 ∷ 65 ∷ 0 ∷ [])) ∷
-    stoppedWith 18 (97 ∷ []) 2 [] (2 ∷ 3 ∷ 8 ∷ 272 ∷ 131072 ∷ 524 ∷ 15 ∷ 19 ∷ 0 ∷ []) ∷ []
+    stoppedWith 18 (97 ∷ []) 2 [] (2 ∷ 3 ∷ 8 ∷ 272 ∷ 131072 ∷ 524 ∷ 15 ∷ 19 ∷ 0 ∷ 65536 ∷ 15 ∷ 19 ∷ []) ∷ []
     -- numbers that are no action: among them would be OutS, PutC, PutV and Loop, which have none
     ++ map (λ n. wrong (actions (n ∷ []))) (counting 0 5 ++ counting 16 5 ++ counting 22 234)
 
@@ -197,6 +215,10 @@ gives result actions = ended (97 ∷ 98 ∷ []) 1 result (doing actions)
 abbrev bothGive : Bytes → List Action → List Action → Row
 bothGive result first second = ended (97 ∷ 98 ∷ []) 2 result (doingBoth first second)
 
+-- every cell of out is written
+abbrev full : List Action
+full = replicate outSize (outC 99)
+
 abbrev doingRows : List Row
 doingRows =
     -- Go moves q to p; Select counts on from q; Out moves p to q
@@ -218,11 +240,34 @@ doingRows =
     -- a sequence is open in the application that opened it alone
     stoppedWith 18 (97 ∷ 98 ∷ []) 2 [] (doingBoth (beginSeq ∷ call 2 ∷ []) (useSeq ∷ [])) ∷
     -- 18 comes before 14
-    stoppedWith 18 (97 ∷ 98 ∷ []) 1 [] (doing (outV 0 ∷ outV 0 ∷ outV 0 ∷ outV 1 ∷ [])) ∷
-    stoppedWith 14 (97 ∷ 98 ∷ []) 1 [] (doing (outV 0 ∷ outV 0 ∷ outV 0 ∷ outV 0 ∷ [])) ∷
+    stoppedWith 18 (97 ∷ 98 ∷ []) 1 [] (doing (full ++ outV 1 ∷ [])) ∷
+    stoppedWith 14 (97 ∷ 98 ∷ []) 1 [] (doing (full ++ outV 0 ∷ [])) ∷
     -- a span below zero counts as zero
     gives (97 ∷ 98 ∷ []) (go (record { register = null; add = 1; back = 3 }) ∷ select (field 0) ∷ out ∷ []) ∷
     gives [] (select (record { register = whole; add = 0; back = 3 }) ∷ out ∷ []) ∷ []
+
+-- AN ANGLE CALL on the whole text, after these actions
+abbrev addingAfter : List Action → Words
+addingAfter before = pack (anyField (before ++ select (field 0) ∷ compute plus ∷ []) ∷ [])
+
+abbrev angleRows : List Row
+angleRows =
+    -- the sum takes all of out, and one cell more than are left
+    ended (bytes "0:00 0:01") 1 (bytes "0:01") (addingAfter []) ∷
+    stoppedWith 14 (bytes "0:00 0:01") 1 [] (addingAfter (outC 99 ∷ [])) ∷
+    -- 20 and 21 come before 14
+    stoppedWith 20 (bytes "0:00") 1 [] (addingAfter full) ∷
+    stoppedWith 21 (bytes "359:59 0:01") 1 [] (addingAfter full) ∷ []
+
+-- WHERE THE ALLOWANCE IS SPENT: each function calls the next, in one way for all, and the last one a function that is there or not
+abbrev callingOn : (ℕ → Action) → ℕ → Words
+callingOn calling last = pack (map (λ f. anyField (calling f ∷ [])) (counting 2 (allowance - 1) ++ last ∷ []))
+
+abbrev spentRows : (ℕ → Action) → List Row
+spentRows calling =
+    stoppedWith 12 (97 ∷ []) allowance [] (callingOn calling 1) ∷
+    -- 18 comes before 12
+    stoppedWith 18 (97 ∷ []) allowance [] (callingOn calling 9) ∷ []
 
 -- WITHOUT A MIDDLE TEMPLATE i is the field's first cell, so that dl is 0 and dr is d: in a test, in a store and in spans
 abbrev placeless : Metric → List Test → List Store → List Action → Words
@@ -286,9 +331,10 @@ recoveryRows =
 
 abbrev pub rows : List Row
 rows =
-    tableRows ++ matchRows ++ actionRows ++ doingRows ++ placelessRows (exactly 2) ++ placelessRows (ends 0 0) ++ stayRows ++ recoveryRows
+    tableRows ++ matchRows ++ actionRows ++ doingRows ++ angleRows ++ spentRows call ++ spentRows tailCall
+    ++ placelessRows (exactly 2) ++ placelessRows (ends 0 0) ++ stayRows ++ recoveryRows
 
--- each is started at function 1, with five steps
-pub wild : map (λ (r : Row). leaving (r .words) 1 (r .text) lent 5) rows ≡ map (λ (r : Row). r .leaves) rows
+-- each is started at function 1
+pub wild : map (λ (r : Row). leaving (r .words) 1 (r .text) lent allowance) rows ≡ map (λ (r : Row). r .leaves) rows
 unfolding computing counting
 wild = refl

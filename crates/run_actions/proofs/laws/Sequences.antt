@@ -181,8 +181,8 @@ module _ (g : Registers) (m : Memory) (there : HasFrame (g .frame) (m .frames)) 
           rw (length-take-le (g .r .0) (m .output) (b .r≤out)) (take-take first (g .r .0) (m .output) (omega arith))
 
       -- all of its bytes are moved
-      whole : MovedSoFar (m .input) (g .p .0) (m .output) first (g .r .0) size input
-      whole = rw cells (byte-by-byte (omega arith) (b .r≤out) (omega (arith, begins)) (omega arith) size (omega arith))
+      whole : MovedSoFar (m .input) (g .p .0) (m .output) (g .r .0) size input
+      whole = rw cells (byte-by-byte (b .r≤out) (omega arith) size (omega arith) (omega (arith, begins)))
 
       below-p : drop to input ≡ drop first (take (g .r .0) (m .output)) ++ drop (g .p .0) (m .input)
       below-p =

@@ -5,7 +5,7 @@ use native.Mathlib.Omega.{arith}
 use mathlib.Core.Path.{_≡_, refl, sym, _∙_, ap}
 use mathlib.Core.List.{_++_}
 use lib.ListN.{length, getD, take, drop, set, take-append-drop, drop-of-length-le, length-drop}
-use lib.Seq.{take-suc, drop-cons, append-snoc, set-at, take-at, drop-at, getD-take, take-take, drop-drop, drop-append-le, length-take-le}
+use lib.Seq.{take-suc, drop-cons, append-snoc, set-at, take-at, drop-at, getD-take, drop-drop, length-take-le}
 use Rattle.meaning.specs.Choice.{Bytes}
 use Rattle.run_cells.specs.Moved.{moved, MovedSoFar, FewToMove, MovedFew}
 
@@ -57,26 +57,21 @@ module _ (before out : Bytes) (p r : ℕ) where
       )
       (set-at (take to before) (getD before to 0) rest (getD out from 0) to (length-take-le to before (omega arith)))
 
--- T-05: after each byte those moved stand in order just below the old p, the others are still on out, and no other cell of in has changed
-pub byte-by-byte : {before out : Bytes} {first r p : ℕ} → first ≤ r → r ≤ length out → r - first ≤ p → p ≤ length before →
-    (k : ℕ) → k ≤ r - first → MovedSoFar before p out first r k (moved k before p out r)
-byte-by-byte {before} {out} {first} {r} {p} order there room inside k few =
+-- T-05: after each byte those moved stand in order just below the old p, and no other cell of in has changed
+pub byte-by-byte : {before out : Bytes} {r p : ℕ} → r ≤ length out → p ≤ length before → (k : ℕ) → k ≤ r → k ≤ p →
+    MovedSoFar before p out r k (moved k before p out r)
+byte-by-byte {before} {out} {r} {p} there inside k few room =
     let kept = take (p - k) before in
     let parts = drop (r - k) (take r out) in
     let right = drop p before in
-    let cells = moved-cells before out p r inside there k (omega arith) (omega arith) in
+    let cells = moved-cells before out p r inside there k room few in
     let long : length kept ≡ p - k = length-take-le (p - k) before (omega arith) in
     let many : length parts ≡ k = rw (length-drop (r - k) (take r out), length-take-le r out there) (omega arith) in
     let from-start : drop (p - k) (moved k before p out r) ≡ parts ++ right = rw cells (drop-at kept (parts ++ right) (p - k) long) in
     let in-order : take k (drop (p - k) (moved k before p out r)) ≡ parts = rw from-start (take-at parts right k many) in
     let end : p ≡ (p - k) + k = omega arith in
-    let on-out : first ≤ length (take (r - k) (take r out)) =
-    rw (take-take (r - k) r out (omega arith), length-take-le (r - k) out (omega arith)) (omega arith) in
     record {
       inOrder = in-order;
-      others =
-          rw (in-order, sym (take-take (r - k) r out (omega arith)), sym (drop-append-le first (take (r - k) (take r out)) parts on-out))
-          (rw (take-append-drop (r - k) (take r out)));
       below = rw cells (take-at kept (parts ++ right) (p - k) long);
       above =
           ap (λ n. drop n (moved k before p out r)) end ∙ sym (drop-drop k (p - k) (moved k before p out r)) ∙
