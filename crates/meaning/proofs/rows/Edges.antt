@@ -1,4 +1,4 @@
--- Worked rows at the edges of 01: the allowance, the middle place, full stacks, a full record, the frames, and what comes before what.
+-- Worked rows at the edges of 01: the allowance, the length, the middle place, full stacks, a full record, the frames, and what comes before what.
 use Prim.Native.Nat.{ℕ}
 use mathlib.Core.Path.{refl}
 use mathlib.Core.Bool.{Bool, true, false}
@@ -103,6 +103,10 @@ edges =
     same tableM (113 ∷ []) 1 ample (result 12 0 1 (1 ∷ []) [] []) ∷
     -- the failed application counts, of the function that it is of
     same tableV (113 ∷ []) most ample (result 11 2 2 (1 ∷ 1 ∷ []) [] []) ∷
+    -- THE LENGTH
+    -- a pattern without an e-variable fits no longer and no shorter text
+    same tableU (97 ∷ 98 ∷ []) most ample (result 11 1 1 (1 ∷ []) [] []) ∷
+    same tableU [] most ample (result 11 1 1 (1 ∷ []) [] []) ∷
     -- THE MIDDLE PLACE
     -- it may touch the end template, and the start of the field
     same tableB abc most ample (result 0 0 1 (1 ∷ []) (97 ∷ 124 ∷ []) []) ∷
@@ -129,6 +133,8 @@ edges =
     -- as many frames as there are calls one inside another, the start's among them
     same tableR (97 ∷ []) most (framed 2) (result 0 0 2 (2 ∷ []) (97 ∷ []) []) ∷
     short tableR (97 ∷ []) (framed 1) (result 0 0 2 (2 ∷ []) (97 ∷ []) []) (result 15 0 1 (1 ∷ []) [] []) ∷
+    -- 12 comes before 15
+    same tableR (97 ∷ []) 1 (framed 1) (result 12 0 1 (1 ∷ []) [] []) ∷
     -- of several needs that are passed the first is answered, with the steps from before it
     short tableR abc (framed 1) (result 0 0 4 (4 ∷ []) (99 ∷ 98 ∷ 97 ∷ []) []) (result 15 0 1 (1 ∷ []) [] []) ∷
     -- WHAT COMES FIRST
