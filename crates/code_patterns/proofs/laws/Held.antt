@@ -23,7 +23,8 @@ use Rattle.meaning.proofs.laws.Words.{register-below}
 use Rattle.tape_words.specs.declared.tape.Parts.{Parts}
 use Rattle.tape_words.specs.declared.tape.Parts.the-variants.{Zero, One, Two}
 use Rattle.code_patterns.specs.declared.pattern.Lengths.{Lengths}
-use Rattle.code_patterns.specs.Testing.{siteNumbers, SmallSite, lastOf, siteBy, siteAt, siteNumber, siteIn, IsSite, AllSites, foundSite, heldSites, held, total}
+use Rattle.code_patterns.specs.Testing.{siteNumbers, SmallSite, lastOf, siteBy, siteAt, siteNumber, siteIn, IsSite}
+use Rattle.code_patterns.specs.Testing.{AllSites, foundSite, heldSites, held, total}
 
 -- CELLS AS NUMBERS
 

@@ -25,7 +25,8 @@ use Rattle.code_patterns.specs.Scans.{Scan, scanned, prepended, oneMore,
 use Rattle.code_words.specs.Writing.{Wrote, Same}
 use Rattle.tape_words.specs.Finding.{numberAmong}
 use Rattle.code_patterns.specs.Measuring.{flag}
-use Rattle.code_patterns.specs.Testing.{siteNumbers, SmallSite, siteAt, siteNumber, siteIn, AllSites, foundSite, held, walk, startFrom, testing, testWords}
+use Rattle.code_patterns.specs.Testing.{siteNumbers, SmallSite, siteAt, siteNumber, siteIn, AllSites, foundSite}
+use Rattle.code_patterns.specs.Testing.{held, walk, startFrom, testing, testWords}
 use Rattle.code_patterns.specs.Testing.{compareTestWord, InTests, TestsOn, letterDone, partDone, testsDone, TestsAll, total}
 use Rattle.tape_words.proofs.laws.Names.{name-here, name-part}
 use Rattle.code_words.proofs.laws.Stores.{same-refl, same-trans, same-words, same-wrote, same-end}

@@ -75,7 +75,8 @@ returns-4 c =
     let at-kind-number = at-truth-number .before in
     let at-expected = at-kind-number .before .before in
     let at-truth-said = at-expected .before .before in
-    end-reads (started at-truth-said .args .is-part) (closing at-truth-said) _ (at-expected .expected .given .1) (at-kind-number .kind-number .ensures)
+    end-reads (started at-truth-said .args .is-part) (closing at-truth-said) _ (at-expected .expected .given .1)
+    (at-kind-number .kind-number .ensures)
     (at-truth-number .truth-number .ensures) (at-class-number .class-number .ensures) refl (c .before .before .put-named .ensures)
 
 pub condition-end-spec : {M : Type 1} → statement M

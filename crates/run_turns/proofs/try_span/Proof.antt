@@ -30,16 +30,18 @@ returns-2 : tie.Need-returns-2
 returns-2 c =
     let at-word : tie.After-word = search in
     let taken = found at-word in
+    let means = found-means taken (Go (at-word .word .given .0 .0)) (rw (numbered at-word true (c .before .before .if1 .taken))) in
     λ allowance output «record» values. rw (c .kept .ensures)
-    (tries-action _ _ _ _ _ (taken .numbered .within) (found-means taken (Go (at-word .word .given .0 .0)) (rw (numbered at-word true (c .before .before .if1 .taken)))) refl
+    (tries-action _ _ _ _ _ (taken .numbered .within) means refl
     (rw (taken .after) at (c .before .go .ensures output «record» values)))
 
 returns-3 : tie.Need-returns-3
 returns-3 c =
     let at-word : tie.After-word = search in
     let taken = found at-word in
+    let means = found-means taken (Select (at-word .word .given .0 .0)) (rw (numbered at-word false (c .before .before .if1 .left))) in
     λ allowance output «record» values. rw (c .kept2 .ensures)
-    (tries-action _ _ _ _ _ (taken .numbered .within) (found-means taken (Select (at-word .word .given .0 .0)) (rw (numbered at-word false (c .before .before .if1 .left)))) refl
+    (tries-action _ _ _ _ _ (taken .numbered .within) means refl
     (rw (taken .after) at (c .before .select .ensures output «record» values)))
 
 pub try-span-spec : {M : Type 1} → statement M
