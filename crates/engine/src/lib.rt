@@ -1,4 +1,6 @@
 // The public entry points over reading, listing, translating and running, and their exports for C and Rust.
+#![tactic(auto)]
+
 pub mod flat;
 pub mod profile;
 

@@ -4,6 +4,8 @@
 // 0x300 and 20 for each byte, 10 for an e-variable, 5 for 'T' and the class begin a condition; 0x400 is `=`, 0x500 `>`,
 // 0x600 the end of a sentence and 0x700 of a function; 0x80n begins a function, and 0x90n and more a call, with the
 // place of its name above that.
+#![tactic(auto)]
+
 mod codes;
 mod items;
 mod room;

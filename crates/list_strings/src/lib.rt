@@ -1,4 +1,6 @@
 // Characters in the strings of a listing.
+#![tactic(auto)]
+
 ghost use Rattle.std.specs.Prelude.{◌≡◌, ◌+◌, ◌<◌};
 ghost use Rattle.meaning.specs.Listing.{is_after_code, is_coded, is_escaped, character_text};
 ghost use Rattle.byte_writing.specs.Put.{Put, farthest};

@@ -277,7 +277,7 @@ module _ (names : List Name) (begun : ℕ) (p : List Element) where
           (λ z at₁.
           let g = fine quota m (value ∙ z) in
           close-told class v later (record { few = f.few; predicates = f.predicates; known = g.middle }) (b ++ t ∷ []) ts
-          (subst (λ w. At w (b ++ t ∷ []) ts) (rw g.short) at₁))
+          (subst (λ w. At w (b ++ t ∷ []) ts) {x = m} {y = middle_at at_close false later} (rw g.short) at₁))
 
       subject-told : (class : Class) (c : Middle) → MiddleFits p c → (b ts : List Placed) → At (middle_at at_variable false c) b ts
           → Told quota (ConditionLeft c.commas) b ts (pass_subject (symbols_of p) (parts_of p) ts (after_variable class))
@@ -334,7 +334,7 @@ module _ (names : List Name) (begun : ℕ) (p : List Element) where
               (λ at.
               subject-told class (with_name c n)
               (record { few = f.few; predicates = predicate-known c.names n f.predicates ∙ ap is_some q; known = f.known })
-              (b ++ t ∷ []) ts (subst (λ w. At w (b ++ t ∷ []) ts) (rw (e, l)) at))
+              (b ++ t ∷ []) ts (subst (λ w. At w (b ++ t ∷ []) ts) {x = m} {y = middle_at at_variable false (with_name c n)} (rw (e, l)) at))
 
           by_name : (o : Option Name) → name_of t.token ≡ o
               → Told quota (ConditionLeft c.commas) b (t ∷ ts)

@@ -326,13 +326,14 @@ module _ (names : List Name) (begun : ℕ) (p : List Element) (any : Bool) (c : 
         at
         (λ t e. rw e) (called-number depth r f)
         (λ n place past b₁ us shorter z at₁.
-        let g = fine quota (next (here (at_called depth) true r) (standing (function_name n) place past)) (called-number depth r f n place past ∙ z) in
+        let named : Sum = next (here (at_called depth) true r) (standing (function_name n) place past) in
+        let g = fine quota named (called-number depth r f n place past ∙ z) in
         let fits : RightFits p (with_call r n) = record { limits = f.limits; calls = g.calls; known = f.known; order = f.order } in
         told-follow quota (CallLeft depth) (ExpressionLeft (suc depth)) b₁ us (parse_expression bound (symbols_of p) (suc depth) (past_call so) us)
         (closing place n)
         (tells (suc depth) (past_call so) (with_call r n) fits
         (record { items = tied.items; depth_is = tied.depth_is; coming = tied.coming }) b₁ us (omega arith)
-        (subst (λ w. At w b₁ us) (rw g.short) at₁))
+        (subst (λ w. At w b₁ us) {x = named} {y = here (in_expression (suc depth)) false (with_call r n)} (rw g.short) at₁))
         (λ given b₂ vs s l₁. close-told depth place n given l₁.so l₁.fits l₁.tied b₂ vs l₁.at l₁.ended))
 
     abbrev outside : ℕ → ℕ → Called → List Placed → Parsed Items

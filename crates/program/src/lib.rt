@@ -1,4 +1,6 @@
 // The program: a table and a text in, what the run of the table's code answers out.
+#![tactic(auto)]
+
 ghost use Rattle.std.specs.Prelude.{◌≡◌, ◌+◌, length};
 ghost use Rattle.io.specs.Counts.{IsPrefixLen};
 ghost use Rattle.program_printing.specs.Texts.{Prints};

@@ -2,6 +2,7 @@
 // In a line `^` is byte 10, `%` byte 13 and `#` byte 9; `[` marks a place, each `+` doubles what stands from there on,
 // and `!` takes the last byte away: `=[ab++!` is `=abababa`. What must come out, `stdout`, is worked out by hand from
 // the paper.
+#![tactic(auto)]
 
 // The text of a line so far, by its length, and the place that is marked in it.
 #[derive(Drop)]

@@ -1,4 +1,6 @@
 // The rows of 01 on their packed code, and runs of words that are no code.
+#![tactic(auto)]
+
 use answers::ending_number;
 use libc::STDOUT_FILENO;
 use run_actions::registers::Ran;

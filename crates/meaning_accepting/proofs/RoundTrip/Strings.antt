@@ -202,9 +202,9 @@ joined-read : {state : Quoted} {quoting : Quoting} {characters meant : Bytes} �
     Closes quoting characters at (joined state text ++ rest) (meant ++ text) rest
 unfolding joined every
 joined-read {meant = meant} m [] bytes at rest = rw (append-nil meant) (closing-read m at rest)
-joined-read {state} {meant = meant} m (c ∷ text) bytes at rest =
+joined-read {state = state} {meant = meant} m (c ∷ text) bytes at rest =
     let first = character-read m c at (joined (after_character state c) text ++ rest) (both_left (is_byte c) _ bytes) in
-    let later = joined-read first.matches text (both_right (is_byte c) _ bytes) first.goes.place rest in
+    let later = joined-read {state = after_character state c} first.matches text (both_right (is_byte c) _ bytes) first.goes.place rest in
     rw (inside-text c text rest m, ← append_assoc meant (c ∷ []) text)
     record { past = later.past; same = first.goes.same ∙ later.same }
 

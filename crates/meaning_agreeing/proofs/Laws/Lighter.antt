@@ -397,10 +397,10 @@ module _ (table : Table) (shape : Shape) (sites : List (Named Site)) where
   alike-items v (then_character c e) w a = same (out_c c) (alike-items v e w a)
   alike-items v (then_symbol x e) w a = same _ (alike-items v e w a)
   alike-items v (then_part x e) w a = alike-part v x w e (alike-items v e (passage shape x w).after a)
-  alike-items {level₀} {level} {k₀} {k} v (then_call place n b e) w a =
+  alike-items {level₀ = level₀} {level = level} {k₀ = k₀} {k = k} v (then_call place n b e) w a =
       rw (same-manner v e n)
       (same begin_seq
-      (alike-items (argument-level (manner_of level e n) (number_of table n) n (λ w₁. earlier_items table shape sites level₀ e w₁ k₀)) b w
+      (alike-items {level₀ = in_argument} {level = level_in (manner_of level e n) (number_of table n)} (argument-level (manner_of level e n) (number_of table n) n (λ w₁. earlier_items table shape sites level₀ e w₁ k₀)) b w
       (λ w₁. same-call (manner_of level e n) (number_of table n) n w₁ (alike-items v e w₁ a))))
 
 alike-sentences : (table : Table) (r : ℕ) (ss : List Sentence) → AlikeSentences (earlier_sentences table r ss) (translated_sentences table r ss)
