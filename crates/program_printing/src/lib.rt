@@ -1,4 +1,6 @@
 // Writing what is printed into lent cells.
+#![tactic(auto)]
+
 ghost use Rattle.std.specs.Prelude.{◌+◌, ◌*◌, ◌<◌, length};
 ghost use Rattle.byte_writing.specs.Put.{farthest};
 ghost use Rattle.program_printing.specs.Texts.{number_cells, number_then, refusal_text, result_text, PutAtMost};

@@ -1,4 +1,8 @@
 // The program: `table.rf` of the current folder, run on standard input. Its stored run is 01's row R on `abc`.
-fn main() {
-    program::run_program();
+#![tactic(auto)]
+
+use std::io;
+
+fn main(rt: HostRuntime) -> io::Result<()> {
+    program::run_program(&rt)
 }
