@@ -1,5 +1,7 @@
 // The engine's answers: what refuses a table text, how a run ends, 01's number of each, and which numbers refuse a
 // table.
+#![tactic(auto)]
+
 ghost use Rattle.std.specs.Prelude.{◌≡◌, eqb};
 ghost use Rattle.answers.specs.Numbers.{answer_number, ending_number, is_refusal};
 

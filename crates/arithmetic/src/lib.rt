@@ -1,4 +1,6 @@
 // Arithmetic on counts: the lesser of two, and a difference that is 0 where there is none.
+#![tactic(auto)]
+
 ghost use Rattle.std.specs.Prelude.{◌-◌, min, ◌≡◌};
 
 pub fn lesser(a: usize, b: usize) -> usize

@@ -1,5 +1,7 @@
 // The byte classes: one constant table of 256 entries, a bit for each class, for conditions; and the tests of single
 // bytes, for reading.
+#![tactic(auto)]
+
 ghost use Rattle.std.specs.Prelude.{◌≡◌};
 ghost use Rattle.meaning.specs.Classes.{within, in_class, digit, alphabetic, is_blank_byte};
 ghost use Rattle.meaning.specs.Allowed.{word_byte, name_byte};

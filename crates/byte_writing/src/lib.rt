@@ -1,4 +1,6 @@
 // Writing bytes of a listing, each only where the buffer has a cell for it, so that writing into no cells counts them.
+#![tactic(auto)]
+
 ghost use Rattle.std.specs.Prelude.{◌+◌, ◌/◌, ◌%◌, ◌<◌, [], ◌∷◌, length};
 ghost use Rattle.meaning.specs.Listing.{decimal};
 ghost use Rattle.byte_writing.specs.Put.{Put, farthest, zero_digit, backslash};

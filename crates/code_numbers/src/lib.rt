@@ -1,5 +1,7 @@
 // The numbers of the code's words, as docs/CODE.md has them. Of instructions, registers, lengths, operations and
 // classes, and what each operand of a word counts. Here they are as a word has them; `wide` has them as counts.
+#![tactic(auto)]
+
 pub mod wide;
 
 // A word is its number, and its three operands below OPERAND: one of the first counts FIRST, and so on.

@@ -1,4 +1,6 @@
 // A sentence's left side as code: the tests of its templates, the stores, and the conditions.
+#![tactic(auto)]
+
 mod bounds;
 pub mod conditions;
 pub mod pattern;

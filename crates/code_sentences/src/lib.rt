@@ -1,4 +1,6 @@
 // A sentence's words, and a function's.
+#![tactic(auto)]
+
 ghost use Rattle.std.specs.Prelude.{◌≡◌, [], ◌∷◌, ◌+◌, ◌≤◌, ◌<◌, ◌^◌, leb, length, drop};
 ghost use Rattle.meaning.specs.Allowed.{max_functions, max_letters, max_sentences};
 ghost use Rattle.meaning.specs.Packing.{code_word};

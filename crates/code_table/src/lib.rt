@@ -1,4 +1,6 @@
 // From the tape of a table to packed code words.
+#![tactic(auto)]
+
 pub mod functions;
 
 ghost use Rattle.std.specs.Prelude.{length, take};

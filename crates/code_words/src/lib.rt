@@ -1,4 +1,6 @@
 // Writing code words: past the end of the lent slice nothing is written, and the place counts on.
+#![tactic(auto)]
+
 ghost use Rattle.std.specs.Prelude.{◌≡◌, [], ◌∷◌, ◌+◌, ◌≤◌, ◌<◌, ◌^◌, length, take, drop};
 ghost use Rattle.meaning.specs.Packing.{code_word};
 ghost use Rattle.code_words.specs.Writing.{cleared_from, Wrote};

@@ -1,4 +1,6 @@
 // What is asked of a table text: whether it is accepted and whether it is flat, its listing, its code.
+#![tactic(auto)]
+
 ghost use Rattle.std.specs.Prelude.{◌≡◌, length};
 ghost use Rattle.meaning.specs.Reading.{read};
 ghost use Rattle.meaning.specs.Entries.{answered, read_answer, flat_answer, written, listed, translated};

@@ -1,4 +1,6 @@
 // What one item of a listing is in bytes: conditions, and the bytes after or between items.
+#![tactic(auto)]
+
 ghost use Rattle.std.specs.Prelude.{◌≡◌, ◌+◌, ◌<◌, length};
 ghost use Rattle.byte_writing.specs.Put.{Put, farthest};
 ghost use Rattle.list_strings.specs.Steps.{longest_step, WroteStep};

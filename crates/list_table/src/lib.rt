@@ -1,5 +1,7 @@
 // From the tape to the listing text. The listing is written word by word of the tape; its length is found first, by
 // writing into no cells.
+#![tactic(auto)]
+
 mod words;
 
 ghost use Rattle.std.specs.Prelude.{◌≡◌, min, take};

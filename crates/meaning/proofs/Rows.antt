@@ -17,3 +17,4 @@ pub mod Parts
 pub mod Flatness
 pub mod Endings
 pub mod Angles
+pub mod Allowed

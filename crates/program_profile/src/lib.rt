@@ -1,4 +1,6 @@
 // The applications of each function of a table, as lines for the program to print after a run's result.
+#![tactic(auto)]
+
 ghost use Rattle.std.specs.Prelude.{suc, ◌+◌, ◌*◌, ◌≤◌, ◌<◌, length};
 ghost use Rattle.meaning.specs.Allowed.{max_name};
 ghost use Rattle.meaning.specs.Reading.{read};

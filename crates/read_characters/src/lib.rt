@@ -1,4 +1,6 @@
 // What stands at a place of a string.
+#![tactic(auto)]
+
 ghost use Rattle.std.specs.Prelude.{◌+◌, ◌≤◌, ◌<◌, length};
 ghost use Rattle.meaning.specs.Tokens as Tokens;
 ghost use Rattle.read_characters.specs.View.{byte_count, StandsInString};

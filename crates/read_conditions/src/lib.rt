@@ -1,4 +1,6 @@
 // The conditions' reader.
+#![tactic(auto)]
+
 ghost use Rattle.std.specs.Prelude.{◌≡◌, ◌≤◌, ◌<◌};
 ghost use Rattle.meaning.specs.Classes.{class_number};
 ghost use Rattle.meaning.specs.Allowed.{max_conditions};

@@ -1,4 +1,6 @@
 // The readers of a table's functions, of their sentences and of expressions.
+#![tactic(auto)]
+
 pub mod expressions;
 pub mod functions;
 pub mod sentences;

@@ -1,4 +1,6 @@
 // What stands between tokens: blanks and comments.
+#![tactic(auto)]
+
 ghost use Rattle.std.specs.Prelude.{◌≡◌, false, ◌+◌, ◌≤◌, eqb, length, drop};
 ghost use Rattle.meaning.specs.Tokens as Tokens;
 ghost use Rattle.read_gaps.specs.View.{skipped_of, compared_at_once, Plain, Ends};

@@ -1,4 +1,6 @@
 // Reading a table text: its tree as a tape, or the number and place of its fault.
+#![tactic(auto)]
+
 mod calls;
 mod functions;
 

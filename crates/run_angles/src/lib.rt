@@ -1,4 +1,6 @@
 // Degrees and minutes: two angles read, and their sum or difference written.
+#![tactic(auto)]
+
 ghost use Rattle.std.specs.Prelude.{◌≡◌, ◌+◌, ◌<◌, ◌≤◌};
 ghost use Rattle.std.proofs.Math.Option.{some};
 ghost use Rattle.meaning.specs.Angles.{operation, numeral_in, size_in, signed, angle_text, angled, max_minutes};

@@ -1,4 +1,6 @@
 // The tests of a sentence at one place of its middle template.
+#![tactic(auto)]
+
 ghost use Rattle.std.specs.Prelude.{◌%◌, ◌/◌, ◌≡◌, eqb, drop};
 ghost use Rattle.meaning.specs.Instructions.{from_start};
 ghost use Rattle.meaning.specs.Instructions.{look as looking};

@@ -1,4 +1,6 @@
 // How far the bytes of a part are in a class, from its beginning on and up to its end.
+#![tactic(auto)]
+
 ghost use Rattle.std.specs.Prelude.{◌≡◌};
 ghost use Rattle.meaning.specs.Choice.{every};
 ghost use Rattle.byte_classes.specs.Tests.{class_test, Answers};

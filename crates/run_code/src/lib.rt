@@ -1,4 +1,6 @@
 // The two-stack string machine on code words.
+#![tactic(auto)]
+
 ghost use Rattle.std.specs.Prelude.{◌≤◌, ◌≡◌, length};
 ghost use Rattle.meaning.specs.Outcome.{max_counted};
 ghost use Rattle.meaning.specs.Leaving.{leaving};

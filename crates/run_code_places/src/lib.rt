@@ -1,4 +1,6 @@
 // A place in the code, and a number of its words as a place or a count.
+#![tactic(auto)]
+
 ghost use Rattle.std.specs.Prelude.{◌≡◌};
 
 // A place in the code. It is counted apart from the cells of in and of out.

@@ -1,4 +1,6 @@
 // Code words as instructions.
+#![tactic(auto)]
+
 ghost use Rattle.std.specs.Prelude.{◌≡◌};
 ghost use Rattle.run_decoding.specs.Decoded.{call_in, computation_in, instruction_in, FindsWord};
 

@@ -1,4 +1,6 @@
 // The leftmost place of a string in a text, in one pass: a bit for each beginning of the string that ends here.
+#![tactic(auto)]
+
 ghost use Rattle.std.specs.Prelude.{ℕ, ◌+◌, ◌≤◌, ◌<◌, ◌-◌, ◌^◌, ◌≡◌, length, get_or, replicate};
 ghost use Rattle.byte_classes.specs.Tests.{byte_count};
 ghost use Rattle.run_finding.specs.Occurrences.{occurrence, suited, occurrence_of, leftmost_occurrence, Marks};

@@ -1,4 +1,6 @@
 // What the choice of a sentence for a field comes to at a glance: no place is searched, and no class is asked.
+#![tactic(auto)]
+
 ghost use Rattle.std.specs.Prelude.{ℕ, ◌+◌, ◌-◌, ◌≤◌, ◌<◌, ◌≡◌, eqb, length, drop};
 ghost use Rattle.meaning.specs.Choice.{nth};
 ghost use Rattle.meaning.specs.Matching.{Checked, failed, found_none, asked, checked, check, check_all, choose_from};

@@ -1,4 +1,6 @@
 // Choosing a function's sentence for a field, read-only: the sentence and where its middle template lies.
+#![tactic(auto)]
+
 ghost use Rattle.std.specs.Prelude.{suc, ◌+◌, ◌-◌, ◌<◌, ◌^◌, ◌≡◌, length, drop};
 ghost use Rattle.meaning.specs.Choice.{pick};
 ghost use Rattle.meaning.specs.Matching.{choose_from};

@@ -1,4 +1,6 @@
 // Where a sentence's middle template lies: its head first, then the tests one by one, then the places that are left.
+#![tactic(auto)]
+
 ghost use Rattle.std.specs.Prelude.{◌+◌, ◌≤◌, ◌≡◌, length, drop};
 ghost use Rattle.meaning.specs.Matching.{check_all};
 ghost use Rattle.meaning.specs.Matching.{search as searched};

@@ -1,4 +1,6 @@
 // The leftmost place at which all tests pass: place by place, or by looking for a byte or a string.
+#![tactic(auto)]
+
 ghost use Rattle.std.specs.Prelude.{◌+◌, ◌≤◌, ◌<◌, ◌^◌, ◌≡◌, length, drop};
 ghost use Rattle.meaning.specs.Instructions.{from_place};
 ghost use Rattle.meaning.specs.Instructions.{look as looking};

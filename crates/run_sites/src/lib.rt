@@ -1,4 +1,6 @@
 // The sites of a field: the cell that a register and an offset name, and the cells before it.
+#![tactic(auto)]
+
 ghost use Rattle.std.specs.Prelude.{◌+◌, ◌≡◌};
 ghost use Rattle.meaning.specs.Choice.{nth};
 ghost use Rattle.meaning.specs.Instructions.{from_end, from_place};

@@ -1,4 +1,6 @@
 // One turn of a run: on registers by value, and on registers that are lent.
+#![tactic(auto)]
+
 ghost use Rattle.std.specs.Prelude.{ℕ, ◌≤◌, ◌<◌, ◌≡◌, length};
 ghost use Rattle.meaning.specs.Choice.{Bytes, pick};
 ghost use Rattle.meaning.specs.Packing.{go_number, select_number};

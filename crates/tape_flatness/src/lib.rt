@@ -1,4 +1,6 @@
 // Whether a table is flat, by its tape: where its leftmost declared call is that is no tail call. 02's T-06.
+#![tactic(auto)]
+
 ghost use Rattle.std.specs.Prelude.{◌≡◌, true, ℕ, ◌+◌, ◌≤◌, ◌<◌, length, drop, get_or};
 ghost use Rattle.tape_layout.specs.Tape.{kind_width};
 ghost use Rattle.tape_words.specs.Words.{carried, head_name};

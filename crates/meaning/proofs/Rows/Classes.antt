@@ -16,11 +16,11 @@ abbrev from : ℕ → ℕ → List ℕ
 from first zero = []
 from first (suc n) = first ∷ from (suc first) n
 
-abbrev of_each_byte : (ℕ → Bool) → List Bool
+abbrev pub of_each_byte : (ℕ → Bool) → List Bool
 of_each_byte test = map test (from 0 256)
 
 -- so many bytes that fail, so many after them that pass, and so on
-abbrev turns : Bool → List ℕ → List Bool
+abbrev pub turns : Bool → List ℕ → List Bool
 turns passes [] = []
 turns true (n ∷ ns) = replicate n true ++ turns false ns
 turns false (n ∷ ns) = replicate n false ++ turns true ns

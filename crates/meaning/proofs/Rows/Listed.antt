@@ -4,9 +4,9 @@ use mathlib.Core.Path.{◌≡◌, refl}
 use mathlib.Core.Bool.{Bool, true, false}
 use mathlib.Core.List.{List, [], ◌∷◌}
 use Rattle.meaning.specs.Choice.{Bytes, Name, every, same_bytes}
-use Rattle.meaning.specs.Classes.{digit, blank}
-use Rattle.meaning.specs.Tree.{character, symbol, Element, letter, part, of_symbol, Expression, end, then_character, then_symbol, then_part}
-use Rattle.meaning.specs.Tree.{then_call}
+use Rattle.meaning.specs.Classes.{Class, digit, blank}
+use Rattle.meaning.specs.Tree.{character, symbol, Element, letter, part, of_symbol, Condition, Expression, end, then_character, then_symbol}
+use Rattle.meaning.specs.Tree.{then_part, then_call}
 use Rattle.meaning.specs.Grammar.{then_characters}
 use Rattle.meaning.specs.Listing.{unquoted, decimal, pattern_text, conditions_text, expression_text, sentence_text, sentences_text, listing}
 use Rattle.meaning.proofs.Rows.Read.{bytes}
@@ -92,21 +92,20 @@ items = refl
 
 -- SENTENCES AND TABLES
 
--- no blank begins the line
+-- a condition on s1
+abbrev asks : Class → Bool → Condition
+asks class truth = record { predicate = class; subject = of_symbol x1; expected = truth }
+
+abbrev sentence : List Element → List Condition → Expression → Bytes
+sentence p cs e = sentence_text (record { pattern = p; conditions = cs; expression = e })
+
+-- no blank begins the line, and no other byte goes for it: the last tree is none that is allowed
 sentences :
     hold
-    (lists (sentence_text (record { pattern = []; conditions = []; expression = end })) "=;\n"
-    ∷ lists (sentence_text (record { pattern = []; conditions = []; expression = then_character 32 end })) "= ' ';\n"
-    ∷ lists
-    (sentence_text
-    (record {
-      pattern = letter (symbol x1) ∷ [];
-      conditions =
-          record { predicate = digit; subject = of_symbol x1; expected = true } ∷
-          record { predicate = blank; subject = of_symbol x1; expected = false } ∷ [];
-      expression = end;
-    }))
-    "s1, <IsDigit s1>: 'T', <IsBlank s1>: 'F' =;\n"
+    (lists (sentence [] [] end) "=;\n"
+    ∷ lists (sentence [] [] (then_character 32 end)) "= ' ';\n"
+    ∷ lists (sentence (letter (symbol x1) ∷ []) (asks digit true ∷ asks blank false ∷ []) end) "s1, <IsDigit s1>: 'T', <IsBlank s1>: 'F' =;\n"
+    ∷ lists (sentence [] (asks digit true ∷ []) end) ", <IsDigit s1>: 'T' =;\n"
     ∷ [])
     ≡ true
 unfolding hold

@@ -5,15 +5,16 @@ use Prim.Native.Char.{code}
 use Prim.Native.String.{String}
 use mathlib.Core.Path.{◌≡◌, refl}
 use mathlib.Core.Bool.{Bool, true, false}
-use mathlib.Core.List.{List, [], ◌∷◌, ◌++◌}
+use mathlib.Core.List.{List, [], ◌∷◌, ◌++◌, map}
 use lib.Dec.{eqb}
 use Rattle.meaning.specs.Choice.{Bytes, both, every, same_bytes, starts_with}
 use Rattle.meaning.specs.Classes.{digit}
 use Rattle.meaning.specs.Tree.{of_symbol, symbol, letter, part, end, then_character, then_symbol, then_part, then_call}
 use Rattle.meaning.specs.Names.{class_named, number_from}
 use Rattle.meaning.specs.Allowed.{member, symbols_from, parts_of, letters_in, coming_after}
-use Rattle.meaning.specs.Tokens.{skip, run, quotation, lex, tokens_from}
-use Rattle.meaning.specs.Grammar.{then_characters}
+use Rattle.meaning.specs.Tokens.{function_name, word, quoted, sign, text_end, malformed, Placed, is_text_end, skip, run, quotation, lex}
+use Rattle.meaning.specs.Tokens.{tokens_from, tokens}
+use Rattle.meaning.specs.Grammar.{standing, then_characters}
 use Rattle.meaning.specs.Reading.{Read, accepted, refused, read, ends_in_part, parse_pattern, parse_condition, parse_conditions, parse_expression}
 use Rattle.meaning.specs.Reading.{parse_sentence, parse_sentences, parse_functions, unknown_call, unknown_in_sentences, unknown_in}
 use Rattle.meaning.specs.Listing.{pattern_text, conditions_text, expression_text, sentences_text, listing}
@@ -48,7 +49,8 @@ answered (refused n k) number place = both (eqb n number) (eqb k place)
 
 unfoldable pub hold : List Row → Bool
 unfolding every same_bytes starts_with class_named number_from member symbols_from parts_of letters_in coming_after skip run quotation lex tokens_from
-    then_characters ends_in_part parse_pattern parse_condition parse_conditions parse_expression parse_sentence parse_sentences parse_functions unknown_call
+    then_characters ends_in_part parse_pattern parse_condition parse_conditions parse_expression parse_sentence parse_sentences parse_functions
+    unknown_call
     unknown_in_sentences unknown_in
 hold rows = every (λ r. answered (read r.text) r.number r.place) rows
 
@@ -168,6 +170,8 @@ comments :
     ∷ says "F{s1/**/=/**/s1/* */}/**/" 0 0
     ∷ says "/" 3 0
     ∷ says "F{= /}" 3 4
+    -- only `/` opens one
+    ∷ says ";* */" 3 0
     ∷ row (bytes "/*" ++ (1 ∷ 127 ∷ 128 ∷ 255 ∷ bytes "*/")) 0 0
     ∷ [])
     ≡ true
@@ -268,6 +272,26 @@ names :
     ≡ true
 unfolding hold
 names = refl
+
+-- TOKENS
+
+-- Each with its place and the place after it: outside sentences every word is a name, `<` with no letter after it ends after itself, and no token
+-- comes after a malformed one or after the end of the text.
+abbrev placed : List Placed
+placed = standing (function_name (bytes "F")) 0 1 ∷ standing (function_name (bytes "G-1")) 2 5 ∷ []
+
+tokens-to-a-fault : tokens (bytes "F G-1<") ≡ placed ++ standing malformed 5 6 ∷ []
+unfolding hold
+tokens-to-a-fault = refl
+
+tokens-to-the-end : tokens (bytes "F G-1 ") ≡ placed ++ standing text_end 6 6 ∷ []
+unfolding hold
+tokens-to-the-end = refl
+
+-- no other kind of token is the end
+ends : map is_text_end (function_name [] ∷ word [] ∷ quoted [] ∷ sign 0 ∷ text_end ∷ malformed ∷ [])
+    ≡ false ∷ false ∷ false ∷ false ∷ true ∷ false ∷ []
+ends = refl
 
 -- TREES
 
