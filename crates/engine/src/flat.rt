@@ -6,8 +6,7 @@ ghost use Rattle.meaning.specs.Entries.{flat_answer};
 use engine_tables::flat_table;
 
 // Number, place, functions: 19 with the place of the name of the leftmost declared call that is no tail call.
-#[unsafe(no_mangle)]
-pub extern "C" fn refal0_flat(table: &[u8], answer: &mut [u64; 3])
+pub fn refal0_flat(table: &[u8], answer: &mut [u64; 3])
     ensures { answer.new ≡ flat_answer (read table.now) }
 {
     let told = flat_table(table);

@@ -1,4 +1,4 @@
-// The public entry points over reading, listing, translating and running, and their exports for C and Rust.
+// The public entry points over reading, listing, translating and running. The crate engine_c exports them for C.
 #![tactic(auto)]
 
 pub mod flat;
@@ -18,8 +18,7 @@ use engine_tables::{list_table, read_table, translate_table};
 pub use run_actions::frames::COUNTED;
 
 // Number, place, functions.
-#[unsafe(no_mangle)]
-pub extern "C" fn refal0_read(table: &[u8], answer: &mut [u64; 3])
+pub fn refal0_read(table: &[u8], answer: &mut [u64; 3])
     ensures { answer.new ≡ read_answer (read table.now) }
 {
     let told = read_table(table);
@@ -27,8 +26,7 @@ pub extern "C" fn refal0_read(table: &[u8], answer: &mut [u64; 3])
 }
 
 // Number, place, length of the listing.
-#[unsafe(no_mangle)]
-pub extern "C" fn refal0_list(table: &[u8], listing: &mut [u8], answer: &mut [u64; 3])
+pub fn refal0_list(table: &[u8], listing: &mut [u8], answer: &mut [u64; 3])
     ensures { written answer.new listing.new ≡
         listed (read table.now) listing.old }
 {
@@ -37,8 +35,7 @@ pub extern "C" fn refal0_list(table: &[u8], listing: &mut [u8], answer: &mut [u6
 }
 
 // Number, place, words of code.
-#[unsafe(no_mangle)]
-pub extern "C" fn refal0_translate(table: &[u8], code: &mut [u32], answer: &mut [u64; 3])
+pub fn refal0_translate(table: &[u8], code: &mut [u32], answer: &mut [u64; 3])
     ensures { written answer.new code.new ≡
         translated (read table.now) (length code.old) }
 {
@@ -52,8 +49,7 @@ fn count_room() -> [u64; COUNTED] {
 }
 
 // Answer, function, steps, length of the text, length of the emissions.
-#[unsafe(no_mangle)]
-pub extern "C" fn refal0_run(
+pub fn refal0_run(
     code: &[u32],
     start: usize,
     text: &[u8],

@@ -7,8 +7,7 @@ use answers::ending_number;
 use run_actions::frames::COUNTED;
 
 // As `refal0_run`, and in `counts` the applications of functions 1 to 64.
-#[unsafe(no_mangle)]
-pub extern "C" fn refal0_profile(
+pub fn refal0_profile(
     code: &[u32],
     start: usize,
     text: &[u8],

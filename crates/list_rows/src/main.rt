@@ -11,36 +11,43 @@ mod items;
 mod room;
 
 use room::show;
+use std::io;
 
 // G { s1 e2 = <G e2> s1; = }
-fn reversal(out: &mut [u8]) {
+fn reversal(rt: &impl Print, out: &mut [u8]) -> io::Result<()> {
     show(
+        rt,
         &[
             0x801, 71, 0x101, 49, 0x201, 50, 0x400, 0x1601, 71, 0x201, 50, 0x500, 0x101, 49, 0x600,
             0x400, 0x700,
         ],
         out,
-    );
+    )
 }
 
 // P { e1 = <Q 'ab' e1> } Q { e1 = e1 }
-fn two_functions(out: &mut [u8]) {
+fn two_functions(rt: &impl Print, out: &mut [u8]) -> io::Result<()> {
     show(
+        rt,
         &[
             0x801, 80, 0x201, 49, 0x400, 0x1301, 81, 97, 98, 0x201, 49, 0x500, 0x700, 0x801, 81,
             0x201, 49, 0x400, 0x201, 49, 0x700,
         ],
         out,
-    );
+    )
 }
 
-fn main() {
-    reversal(&mut [b'.'; 30]);
-    reversal(&mut [b'.'; 28]);
-    reversal(&mut [b'.'; 27]);
-    reversal(&mut [b'.'; 0]);
-    two_functions(&mut [b'.'; 41]);
-    show(&[], &mut [b'.'; 4]);
-    codes::list_codes();
-    items::list_items();
+fn list_all(rt: &impl Print) -> io::Result<()> {
+    reversal(rt, &mut [b'.'; 30])?;
+    reversal(rt, &mut [b'.'; 28])?;
+    reversal(rt, &mut [b'.'; 27])?;
+    reversal(rt, &mut [b'.'; 0])?;
+    two_functions(rt, &mut [b'.'; 41])?;
+    show(rt, &[], &mut [b'.'; 4])?;
+    codes::list_codes(rt)?;
+    items::list_items(rt)
+}
+
+fn main(rt: HostRuntime) -> io::Result<()> {
+    list_all(&rt)
 }

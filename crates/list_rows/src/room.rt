@@ -1,4 +1,5 @@
 // A tape with a row's words at its front, listed and printed.
+use std::io;
 
 // The tape, in a function of its own, so that no caller's facts hold its elements.
 fn tape_room() -> [u32; 32768] {
@@ -17,17 +18,15 @@ fn load(row: &[u32], tape: &mut [u32; 32768]) {
 }
 
 // Prints the length or 17, a line end, the whole buffer and a line end.
-pub fn show(row: &[u32], out: &mut [u8]) {
+pub fn show(rt: &impl Print, row: &[u32], out: &mut [u8]) -> io::Result<()> {
     let mut tape = tape_room();
     load(row, &mut tape);
     let listed = list_table::list(&tape, row.len(), out);
-    let length = listed.length;
     if listed.fits {
-        io::print_decimal(1, length as u64);
+        rt.println(listed.length)?;
     } else {
-        io::write_all(1, b"17");
+        rt.println("17")?;
     }
-    io::write_all(1, b"\n");
-    io::write_all(1, out);
-    io::write_all(1, b"\n");
+    rt.write_all(out)?;
+    rt.println("")
 }

@@ -12,7 +12,7 @@ use byte_writing::{put, put_decimal, put_escape};
 // How the listing stands between two words of the tape: at the beginning of a line; after an item; inside a string; in
 // one right after a code; or with so many bytes of a name to copy: a variable's or a call's, a condition's variable
 // with its truth byte, a function's.
-#[derive(Drop)]
+#[derive(Clone, Copy)]
 pub enum State {
     Start,
     Plain,
@@ -24,7 +24,7 @@ pub enum State {
 }
 
 // The state after a word, and the place after the bytes that it wrote.
-#[derive(Drop)]
+#[derive(Clone, Copy)]
 pub struct Stepped {
     pub state: State,
     pub at: usize,

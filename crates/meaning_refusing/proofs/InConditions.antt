@@ -14,7 +14,8 @@ use Rattle.meaning.specs.Names.{predicate_of, is_predicate}
 use Rattle.meaning.specs.Answers.{over_limit, wrong_name, wrong_later_variable}
 use Rattle.meaning.specs.Tree.{Element, letter, symbol, part, Subject, of_symbol, of_part, Condition}
 use Rattle.meaning.specs.Allowed.{max_name, max_conditions, max_identifier, symbols_of, parts_of, member}
-use Rattle.meaning.specs.Tokens.{Token, function_name, quoted, Placed, comma, colon, equals, less_than, greater_than, is_sign, is_last_token, name_of, Item}
+use Rattle.meaning.specs.Tokens.{Token, function_name, quoted, Placed, comma, colon, equals, less_than, greater_than, is_sign, is_last_token, name_of}
+use Rattle.meaning.specs.Tokens.{Item}
 use Rattle.meaning.specs.Tokens.{characters, symbol_item, part_item, no_item, item_of, is_item}
 use Rattle.meaning.specs.Grammar.{standing, symbol_word, part_word, characters_of, truth_byte}
 use Rattle.meaning.specs.Reading.{Parsed, stopped, parsed, where_faultless, fault_of, fault_unless, name_on, length_fault, with_class, subject_fault}

@@ -1,16 +1,19 @@
 // The program: a table and a text in, what the run of the table's code answers out.
 #![tactic(auto)]
 
-ghost use Rattle.std.specs.Prelude.{◌≡◌, ◌+◌, length};
-ghost use Rattle.io.specs.Counts.{IsPrefixLen};
+ghost use Rattle.std.specs.Prelude.{◌≡◌, ◌+◌, IfOk, IfSome, OnOk, length, take};
+ghost use Rattle.std.specs.Io.KnownBytes.{Appends};
 ghost use Rattle.program_printing.specs.Texts.{Prints};
 ghost use Rattle.program.specs.Printed.{code_words, cells_each, lent_bytes, printed, Shows};
 
 use answers::is_refusal;
 use engine::{COUNTED, Report};
-use libc::{STDIN_FILENO, STDOUT_FILENO};
 use program_printing::{put_refusal, put_result};
 use program_profile::put_profile;
+use std::alloc::Global;
+use std::io::{Read, Write};
+use std::rt::Files;
+use std::{fs, io};
 
 // What the program lends, which function it starts, and the steps that it allows.
 const CODE_WORDS: usize = 16384;
@@ -38,12 +41,6 @@ fn cell_room() -> [u8; CELLS]
     ensures { result ≡ lent_bytes }
 {
     [0u8; CELLS]
-}
-
-fn input_room() -> [u8; INPUT_BYTES]
-    ensures { length result ≡ cells_each + 1 }
-{
-    [0u8; INPUT_BYTES]
 }
 
 fn output_room() -> [u8; OUTPUT_BYTES] {
@@ -110,26 +107,38 @@ pub fn respond(table: &[u8], text: &[u8], out: &mut [u8; OUTPUT_BYTES]) -> usize
     put_profile(table, &counts, steps, out, profile)
 }
 
-// `table.rf` in the current folder; one that can't be opened counts as empty.
-fn read_table_file(buffer: &mut [u8]) -> usize
-    ensures { IsPrefixLen result buffer.new }
+// The bytes of a table or of a text, up to one more than either may have.
+fn read_input<R: Read + Drop>(alloc: Global, reader: R) -> io::Result<Vec<u8>>
+    ensures { IfOk result (λ input. IfSome (R.remaining reader)
+        (λ bytes. input.items ≡ take (cells_each + 1) bytes)) }
 {
-    let file = os::open_read(b"table.rf");
-    if file < 0 {
-        return 0;
-    }
-    let count = io::read_full(file, buffer);
-    libc::close(file);
-    count
+    let mut input = Vec::new(alloc);
+    reader.take(INPUT_BYTES as u64).read_to_end(&mut input)?;
+    Ok(input)
 }
 
-// Reads the table and all of standard input, and prints what the run answers.
-pub fn run_program() {
-    let mut table = input_room();
-    let mut text = input_room();
+// Reads a table and a text to their ends, and writes what the run answers.
+pub fn write_answer<T: Read + Drop, I: Read + Drop, W: Write>(
+    alloc: Global,
+    table: T,
+    text: I,
+    output: &mut W,
+) -> io::Result<()>
+    ensures { OnOk result (IfSome (T.remaining table) (λ t. IfSome (I.remaining text)
+        (λ x. Appends (W.contents output.old) (W.contents output.new) (printed t x)))) }
+{
+    let table = read_input(alloc, table)?;
+    let text = read_input(alloc, text)?;
     let mut out = output_room();
-    let size = read_table_file(&mut table);
-    let length = io::read_full(STDIN_FILENO, &mut text);
-    let count = respond(&table[..size], &text[..length], &mut out);
-    io::write_all(STDOUT_FILENO, &out[..count]);
+    let count = respond(&table, &text, &mut out);
+    output.write_all(&out[..count])
+}
+
+// `table.rf` of the current folder on standard input. A table that can't be opened counts as empty.
+pub fn run_program<R: Files + Input + Print + AllocGlobal>(rt: &R) -> io::Result<()> {
+    let mut output = io::writer(rt);
+    match fs::open(rt, "table.rf") {
+        Ok(table) => write_answer(rt.alloc(), table, rt.reader(), &mut output),
+        Err(_) => write_answer(rt.alloc(), io::empty(), rt.reader(), &mut output),
+    }
 }

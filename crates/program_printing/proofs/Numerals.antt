@@ -39,8 +39,8 @@ fewest-numeral (suc (suc k)) n f =
     digits-numeral (suc n) (suc k) n (omega (arith, below_power (suc k))) f.1 (λ h. above)
 
 -- a number of 64 bits has no more than 20 digits
-pub fewest-short : (k n : ℕ) → IsDigitCount 10 1 n k → Fits w64 n → k ≤ 20
-fewest-short k n f fits = by (leb k 20) refl
+pub fewest_short : (k n : ℕ) → IsDigitCount 10 1 n k → Fits w64 n → k ≤ 20
+fewest_short k n f fits = by (leb k 20) refl
   where
     by : (b : Bool) → leb k 20 ≡ b → k ≤ 20
     by true e = leb-true k 20 e

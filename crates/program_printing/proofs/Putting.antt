@@ -2,7 +2,7 @@
 use Prim.Native.Nat.{ℕ, ◌+◌, ◌≤◌}
 use native.Mathlib.Omega.{arith}
 use native.Mathlib.Nat.{zero-add}
-use mathlib.Core.Path.{◌≡◌, refl, ◌∙◌}
+use mathlib.Core.Path.{◌≡◌, ◌∙◌}
 use mathlib.Core.List.{[], ◌∷◌, ◌++◌}
 use lib.ListN.{length, take, length-append}
 use lib.Seq.{sets-eq}
@@ -13,7 +13,7 @@ use Rattle.io.specs.Digits.{last_digits, IsDigitCount}
 use Rattle.byte_writing.specs.Put.{Put}
 use Rattle.byte_writing.proofs.Writing.{put_then}
 use Rattle.program_printing.specs.Texts.{number_cells, number_then, Prints, PutAtMost}
-use Rattle.program_printing.proofs.Numerals.{fewest-numeral, fewest-short}
+use Rattle.program_printing.proofs.Numerals.{fewest-numeral, fewest_short}
 
 -- the digits of a number, and the byte after them
 pub counted-put : {n after at count next last : ℕ} (text : Bytes) {old mid new : Bytes} → count ≡ length (take count text) → Fits w64 n →
@@ -23,7 +23,7 @@ pub counted-put : {n after at count next last : ℕ} (text : Bytes) {old mid new
 counted-put {n} {count = count} text size fits fewest are p q =
     record {
       put = put_then (rw (are, fewest-numeral count n fewest) at p) q;
-      near = omega (arith, size, fewest-short count n fewest fits, p.place, q.place);
+      near = omega (arith, size, fewest_short count n fewest fits, p.place, q.place);
     }
 
 -- all of the bytes

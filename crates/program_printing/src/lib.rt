@@ -8,6 +8,7 @@ ghost use Rattle.program_printing.specs.Texts.{number_cells, number_then, refusa
 use byte_writing::{put, put_all};
 
 // A number in decimal and the byte after it.
+#[tactic(auto, using(crate::proofs::Numerals::fewest_short))]
 pub fn put_number(out: &mut [u8], at: usize, n: u64, after: u8) -> usize
     requires { at + number_cells < farthest }
     ensures { PutAtMost number_cells at out.old (number_then n after) result out.new }

@@ -80,7 +80,8 @@ module _ (R : RattleType) (κ : Lft) (q : Share) (x : MutBor (List R.Denot)) whe
         use1 𝓛 (‵ (row R full_share zs x.ref_ptr.0 x.ref_ptr.1)) (whole_out 𝓛 R zs x.ref_ptr.0 x.ref_ptr.1) $
         move ! (1 ∷ []) $ fsplit ! $ move ! (1 ∷ []) $ fsplit ! $ move ! (3 ∷ 2 ∷ 0 ∷ 1 ∷ []) $ closes_slice ! tt R ys zs e x.ref_ptr.0 x.ref_ptr.1 $
         at_once ! $
-        fjoin ! $ pure_i ! (mut_slice_at R (lent_at x x.ghost_name zs) (slice_val x.ref_ptr (length zs) ∷ [])) (tt, (tt, tt)) (refl, subst (Room R) (sym e) room)
+        fjoin ! $ pure_i ! (mut_slice_at R (lent_at x x.ghost_name zs) (slice_val x.ref_ptr (length zs) ∷ [])) (tt, (tt, tt))
+        (refl, subst (Room R) (sym e) room)
         $ fjoin ! $ done !
 
 module _ {M : Type 1} {𝓤 : Ura M} {𝓛 : Logic 𝓤} {K : Type 0} {Γ : List (Item 𝓤)} {G : Goal 𝓤 𝓛.H} (t : K) where

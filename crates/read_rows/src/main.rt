@@ -4,6 +4,14 @@
 // the paper.
 #![tactic(auto)]
 
+use std::io;
+use std::io::{BufReader, Read};
+
+// The bytes of input that are read, and those that a line may have.
+const INPUT_BYTES: u64 = 65536;
+
+const TEXT_BYTES: usize = 65536;
+
 // The text of a line so far, by its length, and the place that is marked in it.
 #[derive(Drop)]
 struct Line {
@@ -16,29 +24,31 @@ fn tape_room() -> [u32; 32768] {
     [0; 32768]
 }
 
-fn row(text: &[u8], length: usize) {
+fn text_room() -> [u8; TEXT_BYTES] {
+    [0; TEXT_BYTES]
+}
+
+fn row(rt: &impl Print, text: &[u8], length: usize) -> io::Result<()> {
     if text.len() < length {
-        return;
+        return Ok(());
     }
     let mut tape = tape_room();
     let outcome = read_table::read(&text[0..length], &mut tape);
-    let answer = outcome.answer;
-    io::print_decimal(1, answers::answer_number(answer));
-    io::write_all(1, b" ");
-    io::print_decimal(1, outcome.place as u64);
-    io::write_all(1, b"\n");
+    let place = outcome.place;
+    let number = answers::answer_number(outcome.answer);
+    println!(rt; "{number} {place}")
 }
 
-fn get(text: &[u8; 65536], at: usize) -> u8 {
-    if at < 65536 {
+fn get(text: &[u8; TEXT_BYTES], at: usize) -> u8 {
+    if at < TEXT_BYTES {
         return text[at];
     }
     0
 }
 
 // The length with a byte more; a text that is full takes none.
-fn put(text: &mut [u8; 65536], length: usize, byte: u8) -> usize {
-    if length < 65536 {
+fn put(text: &mut [u8; TEXT_BYTES], length: usize, byte: u8) -> usize {
+    if length < TEXT_BYTES {
         text[length] = byte;
         return length + 1;
     }
@@ -46,7 +56,7 @@ fn put(text: &mut [u8; 65536], length: usize, byte: u8) -> usize {
 }
 
 // The length once the bytes from the mark on stand there twice.
-fn double(text: &mut [u8; 65536], mark: usize, length: usize) -> usize {
+fn double(text: &mut [u8; TEXT_BYTES], mark: usize, length: usize) -> usize {
     let mut to = length;
     for from in mark..length {
         let byte = get(text, from);
@@ -56,7 +66,7 @@ fn double(text: &mut [u8; 65536], mark: usize, length: usize) -> usize {
 }
 
 // The length after a byte of the line that marks nothing.
-fn length_after(text: &mut [u8; 65536], line: Line, byte: u8) -> usize {
+fn length_after(text: &mut [u8; TEXT_BYTES], line: Line, byte: u8) -> usize {
     let length = line.length;
     match byte {
         b'+' => double(text, line.mark, length),
@@ -69,34 +79,35 @@ fn length_after(text: &mut [u8; 65536], line: Line, byte: u8) -> usize {
 }
 
 // The line after a byte; at its end it is read as a table, and the next one begins.
-fn step(text: &mut [u8; 65536], line: Line, byte: u8) -> Line {
+fn step(rt: &impl Print, text: &mut [u8; TEXT_BYTES], line: Line, byte: u8) -> io::Result<Line> {
     let length = line.length;
     if byte == b'\n' {
-        row(text, length);
-        return Line { length: 0, mark: 0 };
+        row(rt, text, length)?;
+        return Ok(Line { length: 0, mark: 0 });
     }
     if byte == b'[' {
-        return Line {
+        return Ok(Line {
             length: length,
             mark: length,
-        };
+        });
     }
-    Line {
+    let mark = line.mark;
+    Ok(Line {
         length: length_after(text, line, byte),
-        mark: line.mark,
-    }
+        mark,
+    })
 }
 
-fn rows(input: &[u8], text: &mut [u8; 65536]) {
+fn rows<R: Input + Print + AllocGlobal>(rt: &R) -> io::Result<()> {
+    let input = BufReader::new(rt.alloc(), rt.reader().take(INPUT_BYTES))?;
+    let mut text = text_room();
     let mut line = Line { length: 0, mark: 0 };
-    for at in 0..input.len() {
-        line = step(text, line, input[at]);
+    for byte in input.bytes() {
+        line = step(rt, &mut text, line, byte?)?;
     }
+    Ok(())
 }
 
-fn main() {
-    let mut input = io::large_buffer();
-    let mut text = io::large_buffer();
-    let count = io::read_full(0, &mut input);
-    rows(&input[..count], &mut text);
+fn main(rt: HostRuntime) -> io::Result<()> {
+    rows(&rt)
 }

@@ -3,13 +3,13 @@
 ghost use Rattle.std.specs.Prelude.{◌+◌, ◌-◌, ◌≤◌, ◌<◌, ◌^◌, min, max, ◌≡◌, length, take, drop, set};
 
 // A place in the code is `run_code_places`'s CodePlace.
-#[derive(Drop)]
+#[derive(Clone, Copy)]
 pub struct InCell(pub usize);
 
-#[derive(Drop)]
+#[derive(Clone, Copy)]
 pub struct OutCell(pub usize);
 
-#[derive(Drop)]
+#[derive(Clone, Copy)]
 pub struct RecordByte(pub usize);
 
 // IN

@@ -2,8 +2,8 @@
 #![tactic(auto)]
 
 use answers::ending_number;
-use libc::STDOUT_FILENO;
 use run_actions::registers::Ran;
+use std::io;
 
 const TABLE_Z: [u32; 19] = [
     1, 2, 273, 458753, 805306369, 10, 65541, 11, 16777478, 269, 15, 17, 327680, 5, 262, 7, 5, 15,
@@ -105,10 +105,11 @@ fn sevens() -> [u8; 1000] {
     [7u8; 1000]
 }
 
-fn front(bytes: &[u8], count: usize) {
+fn front(rt: &impl Print, bytes: &[u8], count: usize) -> io::Result<()> {
     if count <= bytes.len() {
-        io::write_all(STDOUT_FILENO, &bytes[..count]);
+        rt.write_all(&bytes[..count])?;
     }
+    Ok(())
 }
 
 // How many cells from a place on hold another byte than this.
@@ -124,33 +125,35 @@ fn others(bytes: &[u8], start: usize, byte: u8) -> u64 {
     count
 }
 
-fn print(n: u64) {
-    io::print_decimal(STDOUT_FILENO, n);
-    io::write_all(STDOUT_FILENO, b" ");
-}
-
 // Answer, function, steps; the applications of the first two functions; how many cells of in, of out after the text and
 // of the record after the emissions hold another byte than they should; the emissions; the text.
-fn show(ran: Ran, counts: &[u64; 64], input: &[u8], output: &[u8], record: &[u8], left: u8) {
-    let ending = ran.ending;
+fn show(
+    rt: &impl Print,
+    ran: Ran,
+    counts: &[u64; 64],
+    input: &[u8],
+    output: &[u8],
+    record: &[u8],
+    left: u8,
+) -> io::Result<()> {
     let text = ran.text;
     let emissions = ran.emissions;
-    print(ending_number(ending));
-    print(ran.function as u64);
-    print(ran.steps as u64);
-    print(counts[0]);
-    print(counts[1]);
-    print(others(input, 0, left));
-    print(others(output, text, left));
-    print(others(record, emissions, 7));
-    io::write_all(STDOUT_FILENO, b"\n");
-    front(record, emissions);
-    front(output, text);
-    io::write_all(STDOUT_FILENO, b"\n");
+    let function = ran.function;
+    let steps = ran.steps;
+    let answer = ending_number(ran.ending);
+    let changed = others(input, 0, left);
+    let after_text = others(output, text, left);
+    let after_emissions = others(record, emissions, 7);
+    print!(rt; "{answer} {function} {steps} {} {} ", counts[0], counts[1])?;
+    println!(rt; "{changed} {after_text} {after_emissions} ")?;
+    front(rt, record, emissions)?;
+    front(rt, output, text)?;
+    rt.println("")
 }
 
 // A run on these cells.
 fn row_on(
+    rt: &impl Print,
     code: &[u32],
     start: usize,
     text: &[u8],
@@ -159,7 +162,7 @@ fn row_on(
     record: &mut [u8],
     allowance: u32,
     left: u8,
-) {
+) -> io::Result<()> {
     let mut counts = [7u64; 64];
     let ran = run_code::run(
         code,
@@ -171,10 +174,17 @@ fn row_on(
         allowance,
         &mut counts,
     );
-    show(ran, &counts, input, output, record, left);
+    show(rt, ran, &counts, input, output, record, left)
 }
 
-fn row_from(code: &[u32], start: usize, text: &[u8], lent: Lent, left: u8) {
+fn row_from(
+    rt: &impl Print,
+    code: &[u32],
+    start: usize,
+    text: &[u8],
+    lent: Lent,
+    left: u8,
+) -> io::Result<()> {
     let mut first = sevens();
     let mut second = sevens();
     let mut third = sevens();
@@ -185,15 +195,16 @@ fn row_from(code: &[u32], start: usize, text: &[u8], lent: Lent, left: u8) {
     let b = lent.output;
     let c = lent.record;
     if input.len() < a {
-        return;
+        return Ok(());
     }
     if output.len() < b {
-        return;
+        return Ok(());
     }
     if record.len() < c {
-        return;
+        return Ok(());
     }
     row_on(
+        rt,
         code,
         start,
         text,
@@ -202,60 +213,61 @@ fn row_from(code: &[u32], start: usize, text: &[u8], lent: Lent, left: u8) {
         &mut record[..c],
         lent.allowance,
         left,
-    );
+    )
 }
 
-fn row(code: &[u32], text: &[u8], lent: Lent) {
-    row_from(code, 1, text, lent, 0);
+fn row(rt: &impl Print, code: &[u32], text: &[u8], lent: Lent) -> io::Result<()> {
+    row_from(rt, code, 1, text, lent, 0)
 }
 
 // A tail call, its allowance, out one cell short, and the earlier code with out two cells long.
-fn zeros() {
-    row(&TABLE_Z, b"0060", ample());
-    row(&TABLE_Z, b"", ample());
-    row(&TABLE_Z, b"0060", allowed(2));
-    row(&TABLE_Z, b"0060", allowed(3));
-    row(&TABLE_Z, b"0060", cells(4, 2));
-    row(&TABLE_Z, b"0060", cells(4, 1));
-    row(&EARLIER_Z, b"0060", cells(4, 2));
+fn zeros(rt: &impl Print) -> io::Result<()> {
+    row(rt, &TABLE_Z, b"0060", ample())?;
+    row(rt, &TABLE_Z, b"", ample())?;
+    row(rt, &TABLE_Z, b"0060", allowed(2))?;
+    row(rt, &TABLE_Z, b"0060", allowed(3))?;
+    row(rt, &TABLE_Z, b"0060", cells(4, 2))?;
+    row(rt, &TABLE_Z, b"0060", cells(4, 1))?;
+    row(rt, &EARLIER_Z, b"0060", cells(4, 2))
 }
 
 // Frames, conditions, two e-variables.
-fn matches() {
-    row(&TABLE_R, b"abc", cells(3, 3));
-    row(&TABLE_R, b"abc", cells(3, 2));
-    row(&TABLE_H, b"ab7c9", ample());
-    row(&TABLE_H, b"abc", ample());
-    row(&TABLE_K, b"abcab", ample());
-    row(&TABLE_K, b"aa", ample());
-    row(&TABLE_K, b"ab", ample());
+fn matches(rt: &impl Print) -> io::Result<()> {
+    row(rt, &TABLE_R, b"abc", cells(3, 3))?;
+    row(rt, &TABLE_R, b"abc", cells(3, 2))?;
+    row(rt, &TABLE_H, b"ab7c9", ample())?;
+    row(rt, &TABLE_H, b"abc", ample())?;
+    row(rt, &TABLE_K, b"abcab", ample())?;
+    row(rt, &TABLE_K, b"aa", ample())?;
+    row(rt, &TABLE_K, b"ab", ample())
 }
 
 // Conditions on e-variables.
-fn parts() {
-    row(&TABLE_NOT_DIGITS, b"", ample());
-    row(&TABLE_NOT_DIGITS, b"12", ample());
-    row(&TABLE_NOT_DIGITS, b"1a", ample());
-    row(&TABLE_NOT_DIGITS, b"a1", ample());
-    row(&TABLE_ROUND, b"(12)=AB.", ample());
-    row(&TABLE_ROUND, b"()=.", ample());
-    row(&TABLE_ROUND, b"(1)=)=AB.", ample());
+fn parts(rt: &impl Print) -> io::Result<()> {
+    row(rt, &TABLE_NOT_DIGITS, b"", ample())?;
+    row(rt, &TABLE_NOT_DIGITS, b"12", ample())?;
+    row(rt, &TABLE_NOT_DIGITS, b"1a", ample())?;
+    row(rt, &TABLE_NOT_DIGITS, b"a1", ample())?;
+    row(rt, &TABLE_ROUND, b"(12)=AB.", ample())?;
+    row(rt, &TABLE_ROUND, b"()=.", ample())?;
+    row(rt, &TABLE_ROUND, b"(1)=)=AB.", ample())
 }
 
 // A function that recovers another: not asked, asked, past the allowance, and one that fits nothing itself.
-fn recoveries() {
-    row(&TABLE_X, b"a", ample());
-    row(&TABLE_X, b"b", cells(1, 2));
-    row(&TABLE_X, b"b", allowed(1));
-    row(&TABLE_UNRECOVERED, b"b", ample());
+fn recoveries(rt: &impl Print) -> io::Result<()> {
+    row(rt, &TABLE_X, b"a", ample())?;
+    row(rt, &TABLE_X, b"b", cells(1, 2))?;
+    row(rt, &TABLE_X, b"b", allowed(1))?;
+    row(rt, &TABLE_UNRECOVERED, b"b", ample())
 }
 
 // In one cell short, emissions, and a record that is too short for the second line.
-fn emissions() {
-    row(&TABLE_P, b"c", cells(3, 3));
-    row(&TABLE_P, b"c", cells(2, 3));
-    row(&TABLE_M, b"q", ample());
+fn emissions(rt: &impl Print) -> io::Result<()> {
+    row(rt, &TABLE_P, b"c", cells(3, 3))?;
+    row(rt, &TABLE_P, b"c", cells(2, 3))?;
+    row(rt, &TABLE_M, b"q", ample())?;
     row(
+        rt,
         &TABLE_M,
         b"q",
         Lent {
@@ -264,27 +276,31 @@ fn emissions() {
             record: 15,
             allowance: 2,
         },
-    );
+    )
 }
 
 // What is refused before the run, and words that are no code.
-fn refusals() {
-    row_from(&TABLE_P, 0, b"c", ample(), 7);
-    row_from(&TABLE_P, 3, b"c", ample(), 7);
-    row_from(&TABLE_P, 2, b"cccc", cells(3, 3), 7);
-    row_from(&TABLE_P[..2], 1, b"c", ample(), 7);
-    row(&UNKNOWN, b"c", ample());
-    row(&CALL_PAST, b"c", ample());
-    row(&UNOPENED, b"c", ample());
-    row(&PART_PAST, b"c", ample());
-    row(&RECOVERER_PAST, b"c", allowed(1));
+fn refusals(rt: &impl Print) -> io::Result<()> {
+    row_from(rt, &TABLE_P, 0, b"c", ample(), 7)?;
+    row_from(rt, &TABLE_P, 3, b"c", ample(), 7)?;
+    row_from(rt, &TABLE_P, 2, b"cccc", cells(3, 3), 7)?;
+    row_from(rt, &TABLE_P[..2], 1, b"c", ample(), 7)?;
+    row(rt, &UNKNOWN, b"c", ample())?;
+    row(rt, &CALL_PAST, b"c", ample())?;
+    row(rt, &UNOPENED, b"c", ample())?;
+    row(rt, &PART_PAST, b"c", ample())?;
+    row(rt, &RECOVERER_PAST, b"c", allowed(1))
 }
 
-fn main() {
-    zeros();
-    matches();
-    parts();
-    recoveries();
-    emissions();
-    refusals();
+fn run_all(rt: &impl Print) -> io::Result<()> {
+    zeros(rt)?;
+    matches(rt)?;
+    parts(rt)?;
+    recoveries(rt)?;
+    emissions(rt)?;
+    refusals(rt)
+}
+
+fn main(rt: HostRuntime) -> io::Result<()> {
+    run_all(&rt)
 }

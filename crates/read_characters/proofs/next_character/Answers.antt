@@ -1,0 +1,23 @@
+-- The facts about `next_character` that the check is told.
+use native.Mathlib.Omega.{arith}
+use borrow.Author.Tests.{ne_eqb}
+use Rattle.meaning.specs.Tokens.{escaped}
+use Rattle.read_characters.proofs.Strings.{stands-given, stands-closed, stands-broken, stands-later, stands-end}
+use Rattle.read_characters.proofs.next_character.Goals as goal
+
+pub returns-then-text-at : goal.returns-then-text-at
+returns-then-text-at c = stands-end _ _ _ _ c.if-text-at.true
+
+pub returns-in-39 : goal.returns-in-39
+returns-in-39 c = stands-closed _ _ _ _ (omega arith) (λ characters. rw c.in-39.is)
+
+pub returns-in-34 : goal.returns-in-34
+returns-in-34 c = stands-broken _ _ _ _ (omega arith) (λ characters. rw c.in-34.is)
+
+pub returns-in-92 : goal.returns-in-92
+returns-in-92 c = stands-later _ _ _ _ (omega arith) escaped _ (λ characters. rw c.in-92.is) c.escape.ensures
+
+pub returns-in_default : goal.returns-in_default
+returns-in_default c =
+    let m = c.in_default.in_default-own.rest in
+    stands-given _ _ _ _ (omega arith) _ (λ characters. rw (ne_eqb _ 39 m.0.0.1, ne_eqb _ 34 m.0.1, ne_eqb _ 92 m.1))

@@ -1,0 +1,14 @@
+-- The facts about `place_of` that the check is told.
+use Rattle.run_angles.proofs.Reading.{seek-on, seek_found, seek-end}
+use Rattle.run_angles.proofs.place_of.Goals as goal
+
+pub returns-then-here-byte : goal.returns-then-here-byte
+returns-then-here-byte c =
+    seek_found c.loop-at.invariant c.loop-at-test.true c.if-here-byte.true
+
+pub loop-at-preserved : goal.loop-at-preserved
+loop-at-preserved c =
+    seek-on c.loop-at.invariant c.loop-at-test.true c.if-here-byte.false
+
+pub returns : goal.returns
+returns c = seek-end c.loop-at.invariant c.loop-at-test.false

@@ -1,0 +1,7 @@
+-- The facts about `copying::copy_few` that the check is told.
+use Rattle.run_cells.proofs.Laws.Copying.{pasted-few}
+use Rattle.run_cells.proofs.copying.copy_few.Goals as goal
+
+pub returns : goal.returns
+returns c =
+    pasted-few _ _ _ c.requires.from_in_bounds c.copy_four-i.ensures c.copy_two-i.ensures c.copy_one.ensures

@@ -1,0 +1,10 @@
+-- The facts about `byte_at` that the check is told.
+use mathlib.Core.Path.{sym}
+use Rattle.run_sites.proofs.Laws.Lists.{nth_in, nth-out}
+use Rattle.run_sites.proofs.byte_at.Goals as goal
+
+pub returns-then-index-field : goal.returns-then-index-field
+returns-then-index-field c = sym (nth_in _ _ c.if-index-field.true)
+
+pub returns-else-index-field : goal.returns-else-index-field
+returns-else-index-field c = sym (nth-out _ _ c.if-index-field.false)
