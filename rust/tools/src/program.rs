@@ -30,7 +30,7 @@ fn find() -> Result<PathBuf, String> {
     if named.is_file() {
         Ok(named)
     } else {
-        Err(format!("no program at {}: run rt check refal0 first", named.display()))
+        Err(format!("no program at {}: run tools/build program first", named.display()))
     }
 }
 
