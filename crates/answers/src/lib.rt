@@ -25,7 +25,7 @@ pub enum Answer {
 }
 
 // What a run is answered with.
-#[derive(Drop)]
+#[derive(Clone, Copy)]
 pub enum Ending {
     Finished,
     NoSuchStart,

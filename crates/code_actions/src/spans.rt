@@ -8,7 +8,7 @@ use code_patterns::pattern::Lengths;
 use tape_words::tape::Parts;
 
 // Where p stands: at the field's start, or just after its first or second e-variable.
-#[derive(Drop)]
+#[derive(Clone, Copy)]
 pub enum Stand {
     AtStart,
     AfterFirst,

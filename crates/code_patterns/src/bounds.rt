@@ -8,7 +8,7 @@ use code_numbers::wide::{FROM_END, FROM_PLACE, FROM_START};
 use tape_words::tape::Parts;
 
 // The part's first cell, and the first after it.
-#[derive(Drop)]
+#[derive(Clone, Copy)]
 pub struct PartBounds {
     pub from: Site,
     pub to: Site,

@@ -23,7 +23,7 @@ use tape_words::wide::{
 };
 
 // Where the writing of conditions stands: how many, the tape's next word, and the code's.
-#[derive(Drop)]
+#[derive(Clone, Copy)]
 pub struct Conditions {
     pub count: usize,
     pub next: usize,

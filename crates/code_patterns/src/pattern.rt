@@ -8,7 +8,7 @@ ghost use Rattle.code_patterns.specs.Measuring.{past_all, InPattern, Measures, M
 use tape_words::tape::{Parts, Piece, name_size, piece_at};
 
 // How many e-variables there are, and the length of the template before, between and after them.
-#[derive(Drop)]
+#[derive(Clone, Copy)]
 pub struct Lengths {
     pub parts: Parts,
     pub first: usize,
@@ -17,7 +17,7 @@ pub struct Lengths {
 }
 
 // What is measured so far: `variable` is the place of the first e-variable, `next` the next word.
-#[derive(Drop)]
+#[derive(Clone, Copy)]
 pub struct Pattern {
     pub lengths: Lengths,
     pub variable: usize,

@@ -9,7 +9,7 @@ use code_numbers::wide::{FROM_END, FROM_PLACE, FROM_START};
 use tape_words::tape::Parts;
 
 // A cell: the register's number and the offset from it.
-#[derive(Drop)]
+#[derive(Clone, Copy)]
 pub struct Site {
     pub register: usize,
     pub offset: usize,

@@ -21,7 +21,7 @@ use tape_words::tape::{Parts, Piece, name_size, piece_at, word_at};
 
 // Where the writing of tests stands: how many e-variables came before, the offset in this template, the letters and the
 // different s-variables so far, the tape's next word, and the code's.
-#[derive(Drop)]
+#[derive(Clone, Copy)]
 pub struct Tests {
     pub parts: Parts,
     pub offset: usize,

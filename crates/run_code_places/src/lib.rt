@@ -4,7 +4,7 @@
 ghost use Rattle.std.specs.Prelude.{◌≡◌};
 
 // A place in the code. It is counted apart from the cells of in and of out.
-#[derive(Drop)]
+#[derive(Clone, Copy)]
 pub struct CodePlace(pub usize);
 
 // A word's number as a place or a count.

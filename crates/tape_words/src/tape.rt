@@ -13,7 +13,7 @@ use crate::wide::{
 use arithmetic::{less, lesser};
 
 // How many e-variables a pattern has, or has had so far.
-#[derive(Drop)]
+#[derive(Clone, Copy)]
 pub enum Parts {
     Zero,
     One,
@@ -21,7 +21,7 @@ pub enum Parts {
 }
 
 // What a word is where a pattern may go on.
-#[derive(Drop)]
+#[derive(Clone, Copy)]
 pub enum Piece {
     Character,
     SVariable,

@@ -41,7 +41,8 @@ use Rattle.code_patterns.proofs.Laws.Held.{lookup-none, lookup-some}
 -- READING
 
 pub conditions-at : (ws : List ℕ) (i count : ℕ) (b : Bool) → i < length ws → condition_at count (drop i ws) ≡ b
-    → conditions_on_tape count 0 (drop i ws) ≡ condition_by b count (get_or ws i 0) (drop (i + 1) ws) (λ n skip. conditions_on_tape n skip (drop (i + 1) ws))
+    → conditions_on_tape count 0 (drop i ws) ≡ condition_by b count (get_or ws i 0) (drop (i + 1) ws)
+    (λ n skip. conditions_on_tape n skip (drop (i + 1) ws))
 unfolding conditions_on_tape
 conditions-at ws i count b h e =
     let f : is_condition_word count (get_or ws i 0) ≡ b = rw (at_place ws i h) at e in
@@ -112,7 +113,8 @@ bounds-small l first h e = rw e (by_parts l.parts first)
     by_parts Two false = omega arith
 
 part-word : (b : Bounds) (n : ℕ)
-    → part_test_word (site_numbers b.from) (site_numbers b.to) n ≡ test_word (part_test b (class_in (n % class_count)) (eqb (n / condition_truth % 2) 1))
+    → part_test_word (site_numbers b.from) (site_numbers b.to) n ≡ test_word
+    (part_test b (class_in (n % class_count)) (eqb (n / condition_truth % 2) 1))
 part-word b n = omega (arith, class-number (n % class_count) (omega arith), truth-bit (n / condition_truth % 2) (omega arith))
 
 -- the test of a condition on an e-variable, from what the code worked out
@@ -139,7 +141,8 @@ module _ (ws : List ℕ) (m : Pattern) (names sites : List ℕ) (symbols : ℕ) 
   symbol-word n h = omega (arith, found_number h, class-number (n % class_count) (omega arith), truth-bit (n / condition_truth % 2) (omega arith))
 
   -- the same on an s-variable
-  pub symbol-asked : (n : ℕ) {number site r : ℕ} → (n / condition_part % 2 ≡ 1 → ⊥) → number ≡ found → number ≤ symbols → site ≡ found_site number sites
+  pub symbol-asked : (n : ℕ) {number site r : ℕ} → (n / condition_part % 2 ≡ 1 → ⊥) → number ≡ found → number ≤ symbols
+      → site ≡ found_site number sites
       → r ≡ cell_test_word site n
       → r ≡ test_word (condition_test_by (located ws m names sites symbols) (condition_of n x))
   symbol-asked n k en h es e = e ∙ rw (es, en, ne_eqb (n / condition_part % 2) 1 k) (symbol-word n (rw (← en) h))

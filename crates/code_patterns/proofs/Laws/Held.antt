@@ -15,7 +15,7 @@ use native.Mathlib.Nat.{lt_of_not-le}
 use Rattle.meaning.specs.Choice.{Name, pick, same_bytes, Named, lookup}
 use Rattle.meaning.specs.Instructions.{Site, from_start, from_end, from_place}
 use Rattle.meaning.specs.Allowed.{max_letters}
-use Rattle.meaning.specs.Packing.{from_start_number, from_end_number, from_place_number, site_register, site_offset}
+use Rattle.meaning.specs.Packing.{from_start_number, from_end_number, from_place_number, site_offset}
 use Rattle.code_numbers.specs.Numbers.{operand}
 use Rattle.tape_words.specs.Words.{head_name, head_names}
 use Rattle.tape_words.specs.Finding.{number_among}
@@ -93,7 +93,8 @@ found-later : (k : ℕ) (ms : List Name) (n : Name) (s : ℕ) (ss : List ℕ)
     → found_from (k + 1) (number_among (k + 1) ms n) ss ≡ found_from k (number_among (k + 1) ms n) (s ∷ ss)
 found-later k ms n s ss = elim (ℕ_discrete (number_among (k + 1) ms n) 0) [ yes e ↦ rw (eq-eqb _ _ e) | no e ↦ later e ]
   where
-    later : (number_among (k + 1) ms n ≡ 0 → ⊥) → found_from (k + 1) (number_among (k + 1) ms n) ss ≡ found_from k (number_among (k + 1) ms n) (s ∷ ss)
+    later : (number_among (k + 1) ms n ≡ 0 → ⊥) → found_from (k + 1) (number_among (k + 1) ms n) ss ≡ found_from k (number_among (k + 1) ms n)
+        (s ∷ ss)
     later e =
         let j = number_among (k + 1) ms n in
         let past : k + 1 < j = number_past (k + 1) ms n e in

@@ -93,7 +93,8 @@ module _ (ws : List ℕ) (m : Pattern) where
   abbrev after_part : ℕ → Scan (List Element)
   after_part size = pattern_on_tape m.letters (one_more m.lengths.parts) 0 (drop (m.next + 1 + size) ws)
 
-  letter-same : (l : Letter) (size : ℕ) → here ≡ prepended (letter l) (after_letter size) → measuring true ws (past_letter m size) ≡ measuring true ws m
+  letter-same : (l : Letter) (size : ℕ) → here ≡ prepended (letter l) (after_letter size)
+      → measuring true ws (past_letter m size) ≡ measuring true ws m
   unfolding shape_of
   letter-same l size e =
       rw (

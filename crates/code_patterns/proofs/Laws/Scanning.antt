@@ -93,7 +93,8 @@ pattern-skip letters parts (suc skip) (w ∷ ws) = pattern-skip letters parts sk
 
 -- the pattern after the name of the word at a place
 pub pattern-past : (letters : ℕ) (parts : Parts) (ws : List ℕ) (i : ℕ) → i < length ws
-    → pattern_on_tape letters parts (carried (get_or ws i 0)) (drop (i + 1) ws) ≡ pattern_on_tape letters parts 0 (drop (i + 1 + length (head_name ws i)) ws)
+    → pattern_on_tape letters parts (carried (get_or ws i 0)) (drop (i + 1) ws) ≡ pattern_on_tape letters parts 0
+    (drop (i + 1 + length (head_name ws i)) ws)
 pattern-past letters parts ws i h =
     pattern-skip letters parts (carried (get_or ws i 0)) (drop (i + 1) ws) ∙ ap (pattern_on_tape letters parts 0) (name-skip ws i h)
 

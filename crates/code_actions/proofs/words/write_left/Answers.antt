@@ -1,0 +1,7 @@
+-- The facts about `words::write_left` that the check is told.
+use Rattle.code_actions.proofs.Spanned.{small-as, piece-small}
+use borrow.Author.Rules.{rules}
+use Rattle.code_actions.proofs.words.write_left.Goals as goal
+
+pub put_span-selected-requires : goal.put_span-selected-requires
+put_span-selected-requires c = search (rules, small-as, piece-small)
