@@ -1,7 +1,8 @@
 -- Degrees and minutes: 02, T-08. "The argument is two angles with one byte 32 between. An angle is an optional `-`, one
 -- to three degree digits up to 359, `:`, two minute digits 00 to 59. The result is the exact sum or difference (first
 -- less second) in minutes, written as an angle without leading zeros in the degrees and never as `-0:00`."
-use Rattle.std.specs.Prelude.{ℕ, suc, ◌+◌, ◌*◌, ◌/◌, ◌%◌, Bool, true, false, [], ◌∷◌, ◌++◌, leb, eqb, ℤ, pos, negsuc, neg_ℤ, nat_abs, ◌+ℤ◌, ◌-ℤ◌, length}
+use Rattle.std.specs.Prelude.{ℕ, suc, ◌+◌, ◌*◌, ◌/◌, ◌%◌, Bool, true, false, [], ◌∷◌, ◌++◌, leb, eqb, ℤ, pos, negsuc, neg_ℤ, nat_abs, ◌+ℤ◌, ◌-ℤ◌}
+use Rattle.std.specs.Prelude.{length}
 use Rattle.std.proofs.Math.Option.{Option, none, some}
 use Rattle.meaning.specs.Choice.{Bytes, pick, both, guard, every}
 use Rattle.meaning.specs.Ascii.{space, hyphen, colon}

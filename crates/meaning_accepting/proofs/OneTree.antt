@@ -8,8 +8,10 @@ use native.Mathlib.Omega.{arith}
 use lib.Dec.{eqb}
 use Rattle.meaning.specs.Tree.{Element, Subject, Condition, Expression, Sentence, Function, Table}
 use Rattle.meaning.specs.Tokens.{Token, function_name, word, quoted, sign, text_end, malformed, Placed}
-use Rattle.meaning.specs.Grammar.{standing, truth_byte, IsSubject, symbol_subject, part_subject, IsCondition, is_condition, IsConditions, no_conditions}
-use Rattle.meaning.specs.Grammar.{condition_then, IsSentence, is_sentence, IsSentences, last_sentence, last_sentence_parted, sentence_then, IsFunction}
+use Rattle.meaning.specs.Grammar.{standing, truth_byte, IsSubject, symbol_subject, part_subject, IsCondition, is_condition, IsConditions}
+use Rattle.meaning.specs.Grammar.{no_conditions}
+use Rattle.meaning.specs.Grammar.{condition_then, IsSentence, is_sentence, IsSentences, last_sentence, last_sentence_parted, sentence_then}
+use Rattle.meaning.specs.Grammar.{IsFunction}
 use Rattle.meaning.specs.Grammar.{is_function, IsProgram, no_functions, function_then, function_parted_then}
 use Rattle.meaning.specs.Reading.{item_of, is_item, is_sign, is_text_end}
 use Rattle.meaning_accepting.proofs.Reading.Basics.{impossible}
@@ -67,7 +69,8 @@ same-expressions (one_item_then {ts = ts} i d) (one_item_then {ts = us} j f) e h
 same-expressions (one_item_then i d) (called_then b f) e h k = apart an_item (sym e) refl i
 same-expressions (called_then a d) nothing_more e h k = apart (is_sign 60) (sym k.shape ∙ sym e) k.none-call refl
 same-expressions (called_then a d) (one_item_then j f) e h k = apart an_item e refl j
-same-expressions (called_then {ts = ts} {ts₁ = ts₁} {at₃ = at₃} {past₃ = past₃} a d) (called_then {ts = us} {ts₁ = us₁} {at₃ = bt₃} {past₃ = qast₃} b f)
+same-expressions (called_then {ts = ts} {ts₁ = ts₁} {at₃ = at₃} {past₃ = past₃} a d)
+    (called_then {ts = us} {ts₁ = us₁} {at₃ = bt₃} {past₃ = qast₃} b f)
     e h k =
     let name = firsts (firsts e).tail in
     let r = same-expressions a b name.tail (ends_with 62 at₃ past₃ ts₁ refl) (ends_with 62 bt₃ qast₃ us₁ refl) in

@@ -16,7 +16,8 @@ use Rattle.meaning.specs.Names.{number_of, recoverer_of}
 use Rattle.meaning.specs.Allowed.{allowed}
 use Rattle.meaning.specs.Instructions.{Site, Action}
 use Rattle.meaning.specs.Runs.{Room, run_lent}
-use Rattle.meaning.specs.Translation.{Shape, shape_of, tested_shape, Stand, at_start, Passage, passage, Manner, emits, replaces, nests, Level, outermost}
+use Rattle.meaning.specs.Translation.{Shape, shape_of, tested_shape, Stand, at_start, Passage, passage, Manner, emits, replaces, nests, Level}
+use Rattle.meaning.specs.Translation.{outermost}
 use Rattle.meaning.specs.Translation.{in_argument, in_tail, manner_of, level_in, left_for, where_left, calling, item_actions, passes_rest, actions_of}
 use Rattle.meaning.specs.Translation.{translated_sentences, translated_function, translate, computes}
 use Rattle.meaning.specs.Packing.{Words, pack}

@@ -7,7 +7,8 @@ use mathlib.Core.Option.{Option, none, some}
 use native.Mathlib.Omega.{arith}
 use Rattle.meaning.specs.Choice.{Name, pick, both, either, every}
 use Rattle.meaning.specs.Tree.{Element}
-use Rattle.meaning.specs.Tokens.{Token, Placed, comma, equals, less_than, greater_than, is_sign, name_of, Item, characters, symbol_item, part_item, no_item}
+use Rattle.meaning.specs.Tokens.{Token, Placed, comma, equals, less_than, greater_than, is_sign, name_of, Item, characters, symbol_item, part_item}
+use Rattle.meaning.specs.Tokens.{no_item}
 use Rattle.meaning.specs.Tokens.{item_of, begins}
 use Rattle.meaning.specs.Grammar.{elements_of}
 use Rattle.meaning_accepting.proofs.Reading.Lists.{every_append}
@@ -151,7 +152,8 @@ module _ (l : List Placed) (t : Placed) where
   grown-elements true = elements-more l t
   grown-elements false = ap elements_in (append-nil l)
 
-  grown-called : (q : Bool) → called (grown q) ≡ pick (both q (last_is (is_sign less_than) false l)) (add_name (name_of t.token) (called l)) (called l)
+  grown-called : (q : Bool) → called (grown q) ≡
+      pick (both q (last_is (is_sign less_than) false l)) (add_name (name_of t.token) (called l)) (called l)
   grown-called true = names_more (λ after. after) l t
   grown-called false = ap called (append-nil l)
 

@@ -11,12 +11,16 @@ use Rattle.meaning.specs.Choice.{Bytes, Name, pick, is_some, same_bytes}
 use Rattle.meaning.specs.Classes.{Class, digit, class_name}
 use Rattle.meaning.specs.Tree.{Element, Subject, Condition, Expression, Sentence, Table}
 use Rattle.meaning.specs.Names.{predicate_of, class_named}
-use Rattle.meaning.specs.Tokens.{left_brace, right_brace, semicolon, comma, colon, equals, less_than, greater_than, Token, function_name, quoted, sign}
+use Rattle.meaning.specs.Tokens.{left_brace, right_brace, semicolon, comma, colon, equals, less_than, greater_than, Token, function_name, quoted}
+use Rattle.meaning.specs.Tokens.{sign}
 use Rattle.meaning.specs.Tokens.{text_end, Placed}
-use Rattle.meaning.specs.Grammar.{standing, part_word, truth_string, IsLetters, string_letters, variable_letter, IsTemplate, letters_alone, letters_then}
+use Rattle.meaning.specs.Grammar.{standing, part_word, truth_string, IsLetters, string_letters, variable_letter, IsTemplate, letters_alone}
+use Rattle.meaning.specs.Grammar.{letters_then}
 use Rattle.meaning.specs.Grammar.{IsTemplateOrNone, no_template, some_template, IsPattern, no_part, one_part, two_parts, IsSubject, symbol_subject}
-use Rattle.meaning.specs.Grammar.{part_subject, is_condition, IsConditions, no_conditions, condition_then, IsExpression, no_items, string_then, symbol_then}
-use Rattle.meaning.specs.Grammar.{part_then, call_then, is_sentence, IsSentences, last_sentence, last_sentence_parted, sentence_then, is_function, IsProgram}
+use Rattle.meaning.specs.Grammar.{part_subject, is_condition, IsConditions, no_conditions, condition_then, IsExpression, no_items, string_then}
+use Rattle.meaning.specs.Grammar.{symbol_then}
+use Rattle.meaning.specs.Grammar.{part_then, call_then, is_sentence, IsSentences, last_sentence, last_sentence_parted, sentence_then, is_function}
+use Rattle.meaning.specs.Grammar.{IsProgram}
 use Rattle.meaning.specs.Grammar.{no_functions, function_then, function_parted_then}
 use Rattle.meaning.specs.Reading.{is_sign, is_text_end, name_of, item_of, truth_of}
 use Rattle.meaning_accepting.proofs.Reading.Basics.{sign_of, name-of, standing-as, TokenView, a_string, a_symbol, a_part, another, view}
@@ -104,7 +108,8 @@ Follows failed us = ⊥
 
 -- ONE TOKEN BEFORE
 
-program-before : {us : List Placed} (n : Name) (place past : ℕ) → AfterName us → (t : Table) × IsProgram (standing (function_name n) place past ∷ us) t
+program-before : {us : List Placed} (n : Name) (place past : ℕ) → AfterName us →
+    (t : Table) × IsProgram (standing (function_name n) place past ∷ us) t
 program-before n place past (brace (sentences_then d (others e))) = (_, function_then (is_function d) e)
 program-before n place past (brace (sentences_then d (spare e))) = (_, function_parted_then (is_function d) e)
 

@@ -14,7 +14,8 @@ use Rattle.meaning.specs.Names.{predicate_of, is_predicate}
 use Rattle.meaning.specs.Answers.{over_limit, wrong_name, wrong_later_variable}
 use Rattle.meaning.specs.Tree.{Element, letter, symbol, part, Subject, of_symbol, of_part, Condition}
 use Rattle.meaning.specs.Allowed.{max_name, max_conditions, max_identifier, symbols_of, parts_of, member}
-use Rattle.meaning.specs.Tokens.{Token, function_name, quoted, Placed, comma, colon, equals, less_than, greater_than, is_sign, is_last_token, name_of, Item}
+use Rattle.meaning.specs.Tokens.{Token, function_name, quoted, Placed, comma, colon, equals, less_than, greater_than, is_sign, is_last_token, name_of}
+use Rattle.meaning.specs.Tokens.{Item}
 use Rattle.meaning.specs.Tokens.{characters, symbol_item, part_item, no_item, item_of, is_item}
 use Rattle.meaning.specs.Grammar.{standing, symbol_word, part_word, characters_of, truth_byte}
 use Rattle.meaning.specs.Reading.{Parsed, stopped, parsed, where_faultless, fault_of, fault_unless, name_on, length_fault, with_class, subject_fault}
@@ -277,7 +278,7 @@ module _ (names : List Name) (begun : ℕ) (p : List Element) where
           (λ z at₁.
           let g = fine quota m (value ∙ z) in
           close-told class v later (record { few = f.few; predicates = f.predicates; known = g.middle }) (b ++ t ∷ []) ts
-          (subst (λ w. At w (b ++ t ∷ []) ts) (rw g.short) at₁))
+          (subst (λ w. At w (b ++ t ∷ []) ts) {x = m} {y = middle_at at_close false later} (rw g.short) at₁))
 
       subject-told : (class : Class) (c : Middle) → MiddleFits p c → (b ts : List Placed) → At (middle_at at_variable false c) b ts
           → Told quota (ConditionLeft c.commas) b ts (pass_subject (symbols_of p) (parts_of p) ts (after_variable class))
@@ -334,7 +335,7 @@ module _ (names : List Name) (begun : ℕ) (p : List Element) where
               (λ at.
               subject-told class (with_name c n)
               (record { few = f.few; predicates = predicate-known c.names n f.predicates ∙ ap is_some q; known = f.known })
-              (b ++ t ∷ []) ts (subst (λ w. At w (b ++ t ∷ []) ts) (rw (e, l)) at))
+              (b ++ t ∷ []) ts (subst (λ w. At w (b ++ t ∷ []) ts) {x = m} {y = middle_at at_variable false (with_name c n)} (rw (e, l)) at))
 
           by_name : (o : Option Name) → name_of t.token ≡ o
               → Told quota (ConditionLeft c.commas) b (t ∷ ts)

@@ -15,9 +15,11 @@ use Rattle.meaning.specs.Tree.{Element, letter, symbol, part, Expression, end, t
 use Rattle.meaning.specs.Allowed.{max_name, max_items, max_nesting, max_identifier, symbols_of, parts_of, member, coming_after, where_some}
 use Rattle.meaning.specs.Tokens.{Token, function_name, sign, Placed, less_than, greater_than, is_sign, item_of, is_item}
 use Rattle.meaning.specs.Grammar.{standing, characters_of}
-use Rattle.meaning.specs.Reading.{Parsed, stopped, parsed, follow, where_faultless, whether, fault_unless, pass_name, Progress, Items, Called, coming_or}
+use Rattle.meaning.specs.Reading.{Parsed, stopped, parsed, follow, where_faultless, whether, fault_unless, pass_name, Progress, Items, Called}
+use Rattle.meaning.specs.Reading.{coming_or}
 use Rattle.meaning.specs.Reading.{past_item, past_call, item_fault, call_fault, called_fault, then_item, with_first, parse_call, parse_expression}
-use Rattle.meaning_accepting.proofs.Reading.Basics.{impossible, passed, both_left, both_right, both_true, TokenView, a_string, a_symbol, a_part, another}
+use Rattle.meaning_accepting.proofs.Reading.Basics.{impossible, passed, both_left, both_right, both_true, TokenView, a_string, a_symbol, a_part}
+use Rattle.meaning_accepting.proofs.Reading.Basics.{another}
 use Rattle.meaning_accepting.proofs.Reading.Basics.{view, sign_of, standing-as}
 use Rattle.meaning_accepting.proofs.Reading.Lists.{agree, every_append, both-comm}
 use Rattle.meaning_accepting.proofs.Reading.PatternItems.{characters-same-parts, symbol-same-parts, part-adds}
@@ -43,7 +45,8 @@ where-step : (o : Option (List Name)) (xs : List Name) (x : Name)
 where-step none xs x go = refl
 where-step (some later) xs x go = go later
 
-coming-more : (xs : List Name) (x : Name) (of : List Name) → coming_after_each (xs ++ x ∷ []) of ≡ where_some (coming_after_each xs of) (coming_after x)
+coming-more : (xs : List Name) (x : Name) (of : List Name) → coming_after_each (xs ++ x ∷ []) of ≡
+    where_some (coming_after_each xs of) (coming_after x)
 unfolding coming_after_each
 coming-more [] x of = sym (where-some (coming_after x of))
 coming-more (y ∷ xs) x of = where-step (coming_after y of) xs x (coming-more xs x)
@@ -195,7 +198,8 @@ module _ (names : List Name) (begun : ℕ) (p : List Element) (any : Bool) (c : 
             f.order,
           )
       item-number place past (a_symbol b x) i =
-          right-number (in_expression depth) (leb (length (b ∷ x)) max_identifier) false false false (with_items r (letter (symbol (b ∷ x)) ∷ [])) refl
+          right-number (in_expression depth) (leb (length (b ∷ x)) max_identifier) false false false (with_items r (letter (symbol (b ∷ x)) ∷ []))
+          refl
           ∙ rw (
             more-limits p r f depth so tied (letter (symbol (b ∷ x)) ∷ []) 1 refl,
             f.calls,
@@ -322,17 +326,19 @@ module _ (names : List Name) (begun : ℕ) (p : List Element) (any : Bool) (c : 
         → (b ts : List Placed) → length ts ≤ bound → At (here (at_called depth) true r) b ts
         → Told quota (CallLeft depth) b ts (pass_name called_fault ts (argued (parse_expression bound (symbols_of p)) depth so))
     inside-told bound tells depth so r f tied b ts l at =
-        told-name quota (CallLeft depth) (here (at_called depth) true r) refl b called_fault ts (argued (parse_expression bound (symbols_of p)) depth so)
+        told-name quota (CallLeft depth) (here (at_called depth) true r) refl b called_fault ts
+        (argued (parse_expression bound (symbols_of p)) depth so)
         at
         (λ t e. rw e) (called-number depth r f)
         (λ n place past b₁ us shorter z at₁.
-        let g = fine quota (next (here (at_called depth) true r) (standing (function_name n) place past)) (called-number depth r f n place past ∙ z) in
+        let named : Sum = next (here (at_called depth) true r) (standing (function_name n) place past) in
+        let g = fine quota named (called-number depth r f n place past ∙ z) in
         let fits : RightFits p (with_call r n) = record { limits = f.limits; calls = g.calls; known = f.known; order = f.order } in
         told-follow quota (CallLeft depth) (ExpressionLeft (suc depth)) b₁ us (parse_expression bound (symbols_of p) (suc depth) (past_call so) us)
         (closing place n)
         (tells (suc depth) (past_call so) (with_call r n) fits
         (record { items = tied.items; depth_is = tied.depth_is; coming = tied.coming }) b₁ us (omega arith)
-        (subst (λ w. At w b₁ us) (rw g.short) at₁))
+        (subst (λ w. At w b₁ us) {x = named} {y = here (in_expression (suc depth)) false (with_call r n)} (rw g.short) at₁))
         (λ given b₂ vs s l₁. close-told depth place n given l₁.so l₁.fits l₁.tied b₂ vs l₁.at l₁.ended))
 
     abbrev outside : ℕ → ℕ → Called → List Placed → Parsed Items

@@ -195,7 +195,8 @@ module _ (quota : Quota) where
                 (name-inner t.token q) (name-number n ∙ z)
                 (λ at.
                 name-told n z few t.place (b ++ t ∷ []) ts
-                (subst (λ m. At m (b ++ t ∷ []) ts) (rw (passed (leb (length n) max_name) over_limit _ (omega arith) z).0) at))
+                (subst (λ m. At m (b ++ t ∷ []) ts) {x = name_at names begun n} {y = table_at named false (names ++ n ∷ []) begun}
+                (rw (passed (leb (length n) max_name) over_limit _ (omega arith) z).0) at))
             by-fault (suc m) z = told-stop quota (FunctionLeft names begun left) (name_at names begun n) b t ts (w.on-name n q) m (name-number n ∙ z)
 
   -- THE FUNCTIONS

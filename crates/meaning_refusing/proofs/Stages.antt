@@ -8,14 +8,18 @@ use borrow.Author.Tests.{eq-eqb, eqb-true}
 use lib.Dec.{ltb, eqb}
 use Rattle.meaning.specs.Choice.{Name, pick, is_some, either, same_bytes}
 use Rattle.meaning.specs.Tree.{Element, Subject, Condition, Expression, Sentence, Function, Table}
-use Rattle.meaning.specs.Tokens.{left_brace, right_brace, semicolon, comma, colon, equals, less_than, greater_than, Token, function_name, word, quoted}
+use Rattle.meaning.specs.Tokens.{left_brace, right_brace, semicolon, comma, colon, equals, less_than, greater_than, Token, function_name, word}
+use Rattle.meaning.specs.Tokens.{quoted}
 use Rattle.meaning.specs.Tokens.{sign, text_end, malformed, Placed}
 use Rattle.meaning.specs.Grammar.{standing, IsLetters, string_letters, variable_letter, IsTemplate, letters_alone, letters_then, IsTemplateOrNone}
-use Rattle.meaning.specs.Grammar.{no_template, some_template, IsPattern, no_part, one_part, two_parts, IsSubject, symbol_subject, part_subject, IsCondition}
-use Rattle.meaning.specs.Grammar.{is_condition, IsConditions, no_conditions, condition_then, IsExpression, no_items, string_then, symbol_then, part_then}
+use Rattle.meaning.specs.Grammar.{no_template, some_template, IsPattern, no_part, one_part, two_parts, IsSubject, symbol_subject, part_subject}
+use Rattle.meaning.specs.Grammar.{IsCondition}
+use Rattle.meaning.specs.Grammar.{is_condition, IsConditions, no_conditions, condition_then, IsExpression, no_items, string_then, symbol_then}
+use Rattle.meaning.specs.Grammar.{part_then}
 use Rattle.meaning.specs.Grammar.{call_then, IsSentence, is_sentence, IsSentences, last_sentence, last_sentence_parted, sentence_then, IsFunction}
 use Rattle.meaning.specs.Grammar.{is_function, IsProgram, no_functions, function_then, function_parted_then}
-use Rattle.meaning.specs.Reading.{is_sign, is_text_end, name_of, Item, characters, symbol_item, part_item, no_item, item_of, is_item, truth_of, begins}
+use Rattle.meaning.specs.Reading.{is_sign, is_text_end, name_of, Item, characters, symbol_item, part_item, no_item, item_of, is_item, truth_of}
+use Rattle.meaning.specs.Reading.{begins}
 use Rattle.meaning_accepting.proofs.Reading.Basics.{impossible, sign_of}
 use Rattle.meaning_accepting.proofs.Reading.Sentences.{Begins, sentence-begins}
 use Rattle.meaning_refusing.specs.Faults.{Like, nothing, same, other_name, empty_string, Viable}
@@ -231,7 +235,8 @@ program-leads (function_parted_then d e) = let f = function-leads d in let g = (
 pub failed-finished : {A : Type 0} → failed ≡ finished → A
 failed-finished e = let z : ◌≡◌ {A = ℕ} 0 1 = cc in absurd (omega arith)
 
-name-alike : (s : Stage) (n m : Name) (place past : ℕ) → step s (standing (function_name n) place past) ≡ step s (standing (function_name m) place past)
+name-alike : (s : Stage) (n m : Name) (place past : ℕ) → step s (standing (function_name n) place past) ≡
+    step s (standing (function_name m) place past)
 name-alike start n m place past = refl
 name-alike after_function n m place past = refl
 name-alike named n m place past = refl

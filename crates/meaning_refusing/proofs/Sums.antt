@@ -11,9 +11,11 @@ use Rattle.meaning.specs.Choice.{Name, pick, both, either, is_some, every}
 use Rattle.meaning.specs.Tree.{Element}
 use Rattle.meaning.specs.Names.{is_predicate, is_reserved}
 use Rattle.meaning.specs.Answers.{malformed_token, not_allowed_here, over_limit, wrong_name, wrong_pattern_variable, wrong_later_variable}
-use Rattle.meaning.specs.Allowed.{max_letters, max_symbols, max_conditions, max_items, max_nesting, symbols_of, parts_of, letters_in, parted, distinct}
+use Rattle.meaning.specs.Allowed.{max_letters, max_symbols, max_conditions, max_items, max_nesting, symbols_of, parts_of, letters_in, parted}
+use Rattle.meaning.specs.Allowed.{distinct}
 use Rattle.meaning.specs.Allowed.{member}
-use Rattle.meaning.specs.Tokens.{Token, Placed, comma, equals, less_than, greater_than, is_sign, name_of, Item, characters, symbol_item, part_item, no_item}
+use Rattle.meaning.specs.Tokens.{Token, Placed, comma, equals, less_than, greater_than, is_sign, name_of, Item, characters, symbol_item, part_item}
+use Rattle.meaning.specs.Tokens.{no_item}
 use Rattle.meaning.specs.Tokens.{item_of, begins}
 use Rattle.meaning.specs.Grammar.{elements_of}
 use Rattle.meaning.specs.Reading.{fault_unless}

@@ -9,10 +9,12 @@ use lib.Dec.{leb}
 use lib.ListN.{length}
 use Rattle.meaning.specs.Choice.{Name}
 use Rattle.meaning.specs.Answers.{malformed_token, not_allowed_here}
-use Rattle.meaning.specs.Tokens.{Token, function_name, word, quoted, sign, text_end, malformed, Placed, is_last_token, is_sign, name_of, item_of, is_item}
+use Rattle.meaning.specs.Tokens.{Token, function_name, word, quoted, sign, text_end, malformed, Placed, is_last_token, is_sign, name_of, item_of}
+use Rattle.meaning.specs.Tokens.{is_item}
 use Rattle.meaning.specs.Allowed.{max_conditions}
 use Rattle.meaning.specs.Grammar.{standing}
-use Rattle.meaning.specs.Reading.{Parsed, stopped, parsed, cut_short, follow, fault_of, refuse, whether, where_faultless, fault_unless, pass, pass_name}
+use Rattle.meaning.specs.Reading.{Parsed, stopped, parsed, cut_short, follow, fault_of, refuse, whether, where_faultless, fault_unless, pass}
+use Rattle.meaning.specs.Reading.{pass_name}
 use Rattle.meaning.specs.Reading.{name_on}
 use Rattle.meaning_accepting.proofs.Reading.Basics.{impossible, both_left, both_right, passed, sign_of, name-of, standing-as}
 use Rattle.meaning_refusing.specs.Faults.{is_malformed, Quota}

@@ -9,15 +9,18 @@ use borrow.Author.Tests.{lt-ltb, not-true}
 use lib.Dec.{ltb}
 use Rattle.meaning.specs.Choice.{Bytes, Name, pick, both, either, every, or_else, is_some, same_bytes}
 use Rattle.meaning.specs.Names.{is_predicate, is_built_in, is_reserved, number_from, is_known}
-use Rattle.meaning.specs.Tree.{Element, Subject, Condition, Expression, end, then_character, then_symbol, then_part, then_call, Sentence, Function, Table}
+use Rattle.meaning.specs.Tree.{Element, Subject, Condition, Expression, end, then_character, then_symbol, then_part, then_call, Sentence, Function}
+use Rattle.meaning.specs.Tree.{Table}
 use Rattle.meaning.specs.Allowed.{is_byte, member, names_of, allowed_function, allowed_sentence, allowed_pattern, allowed_conditions, spelled_items}
 use Rattle.meaning.specs.Allowed.{spelled_name, some_sentence, symbols_of, parts_of}
 use Rattle.meaning.specs.Tokens.{Token, function_name, quoted, Placed, less_than, is_sign, name_of}
-use Rattle.meaning.specs.Grammar.{standing, symbol_word, part_word, then_characters, IsLetters, string_letters, variable_letter, IsTemplate, letters_alone}
+use Rattle.meaning.specs.Grammar.{standing, symbol_word, part_word, then_characters, IsLetters, string_letters, variable_letter, IsTemplate}
+use Rattle.meaning.specs.Grammar.{letters_alone}
 use Rattle.meaning.specs.Grammar.{letters_then, IsTemplateOrNone, no_template, some_template, IsPattern, no_part, one_part, two_parts, IsSubject}
 use Rattle.meaning.specs.Grammar.{symbol_subject, part_subject, IsCondition, is_condition, IsConditions, no_conditions, condition_then, IsExpression}
 use Rattle.meaning.specs.Grammar.{no_items, string_then, symbol_then, part_then, call_then, IsSentence, is_sentence, IsSentences, last_sentence}
-use Rattle.meaning.specs.Grammar.{last_sentence_parted, sentence_then, IsFunction, is_function, IsProgram, no_functions, function_then, function_parted_then}
+use Rattle.meaning.specs.Grammar.{last_sentence_parted, sentence_then, IsFunction, is_function, IsProgram, no_functions, function_then}
+use Rattle.meaning.specs.Grammar.{function_parted_then}
 use Rattle.meaning.specs.Reading.{unknown_call, unknown_in_sentences, unknown_in}
 use Rattle.meaning_accepting.proofs.Reading.Basics.{both_left, both_right}
 use Rattle.meaning_refusing.specs.Looking.{names_from, declared_names}

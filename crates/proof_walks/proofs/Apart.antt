@@ -15,7 +15,7 @@ tokens (suc n) κs qs = ‵ (flft κs.0 qs.0) ∷ tokens n κs.1 qs.1
 
 abbrev pub each_owns : {M : Type 1} {𝓤 : Ura M} (Ts : List RattleType) → Denots Ts → Valss Ts → List (Item 𝓤)
 each_owns [] a vss = []
-each_owns (T ∷ Ts) a vss = ‵ (T.own a.0 vss.0) ∷ each_owns Ts a.1 vss.1
+each_owns (T ∷ Ts) a vss = ‵ (T.own_val a.0 vss.0) ∷ each_owns Ts a.1 vss.1
 
 module _ {M : Type 1} {𝓤 : Ura M} (𝓛 : Logic 𝓤) where
   open 𝓛 use {A}
@@ -32,13 +32,13 @@ module _ {M : Type 1} {𝓤 : Ura M} (𝓛 : Logic 𝓤) where
 
   owned-out : (Ts : List RattleType) (a : Denots Ts) (vss : Valss Ts) → ent 𝓤 (sem 𝓛 (owns Ts a vss)) (⋆ 𝓛 (each_owns Ts a vss))
   owned-out [] a vss = id⊢ 𝓤 (emp 𝓤)
-  owned-out (T ∷ Ts) a vss = via 𝓤 _ (mono_r 𝓤 (sem 𝓛 (T.own a.0 vss.0)) (owned-out Ts a.1 vss.1))
-      (push 𝓛 (‵ (T.own a.0 vss.0)) (each_owns Ts a.1 vss.1))
+  owned-out (T ∷ Ts) a vss = via 𝓤 _ (mono_r 𝓤 (sem 𝓛 (T.own_val a.0 vss.0)) (owned-out Ts a.1 vss.1))
+      (push 𝓛 (‵ (T.own_val a.0 vss.0)) (each_owns Ts a.1 vss.1))
 
   owned_in : (Ts : List RattleType) (a : Denots Ts) (vss : Valss Ts) → ent 𝓤 (⋆ 𝓛 (each_owns Ts a vss)) (sem 𝓛 (owns Ts a vss))
   owned_in [] a vss = id⊢ 𝓤 (emp 𝓤)
-  owned_in (T ∷ Ts) a vss = via 𝓤 _ (pop 𝓛 (‵ (T.own a.0 vss.0)) (each_owns Ts a.1 vss.1))
-      (mono_r 𝓤 (sem 𝓛 (T.own a.0 vss.0)) (owned_in Ts a.1 vss.1))
+  owned_in (T ∷ Ts) a vss = via 𝓤 _ (pop 𝓛 (‵ (T.own_val a.0 vss.0)) (each_owns Ts a.1 vss.1))
+      (mono_r 𝓤 (sem 𝓛 (T.own_val a.0 vss.0)) (owned_in Ts a.1 vss.1))
 
 module _ {M : Type 1} {𝓤 : Ura M} {𝓛 : Logic 𝓤} {K : Type 0} {Γ : List (Item 𝓤)} {G : Goal 𝓤 𝓛.H} (t : K) where
   pub tokens-apart : (n : ℕ) (κs : Lfts n) (qs : Shares n) → Step K 𝓛 (tokens n κs qs ++ Γ) G (raw (toks 𝓛 n κs qs) ∷ Γ) G

@@ -5,7 +5,7 @@ use mir.Syntax.{Fn}
 use base.Logic.{SProp, ent, sep}
 use types.Logic.{Logic}
 use prog.Model.{Model}
-use prog.Routine.{Name, Env}
+use prog.Routine.{Callee, Env}
 use prog.Wp.{Calls, Loops, WpFn, Closed}
 use contract.Monad.{fact}
 use contract.Lifetimes.{Lfts, Shares, AllOutlive}
@@ -21,7 +21,7 @@ use denote.Triple.Clauses.{Clauses, Ended, closing}
 use denote.Triple.Entry.{Args, on_entry}
 use denote.Triple.Spec.{Meets, triple_of}
 use denote.Triple.Table.{entered}
-use denote.Triple.Walked.{Stays, AllGo, walk_of, walked, walk_meets}
+use denote.Triple.Walked.{Stays, AllGo, walk_of, walked, walk_Meets}
 
 module _ {M : Type 1} {𝓤 : Ura M} (𝓛 : Logic 𝓤) (𝓜 : Model 𝓤 𝓛.H) (𝓡 : Running 𝓤 𝓛.H 𝓜) (γ : Env) where
   open 𝓛 use {H}
@@ -40,7 +40,7 @@ module _ {M : Type 1} {𝓤 : Ura M} (𝓛 : Logic 𝓤) (𝓜 : Model 𝓤 𝓛
   -- the function's signature and clauses, what it has of its parameters at exit, and how they are spelt
   pub walk-enters : (T : Ended) (hs : Stays T.signature.params T.kept)
       → AllGo 𝓛 T.signature.lifetimes T.signature.params T.kept hs
-      → (c : Clauses 𝓤 T) (k : Name) (e : Fn) → Closed 𝓤 H C Λ k e
+      → (c : Clauses 𝓤 T) (k : Callee) (e : Fn) → Closed 𝓤 H C Λ k e
       → (sp : (κs : Lfts T.signature.lifetimes) → Spells (types_at T.signature.params κs))
       → ((κs : Lfts T.signature.lifetimes) → Tellss (types_at T.signature.params κs) (Ises (types_at T.signature.params κs)) (sp κs))
       → ((κs : Lfts T.signature.lifetimes) (qs : Shares T.signature.lifetimes)
@@ -54,7 +54,7 @@ module _ {M : Type 1} {𝓤 : Ura M} (𝓛 : Logic 𝓤) (𝓜 : Model 𝓤 𝓛
   unfolding tables_of
   walk-enters T hs gs c k e closed sp tl w =
       entered 𝓤 H (triple_of 𝓛 T.signature (closing 𝓛 T c)) C Λ k e closed
-      (walk_meets 𝓛 T hs gs c (WpFn 𝓤 H C Λ e) (WpFn-mono 𝓤 H (of_model 𝓤 H 𝓜) (tables_of 𝓤 H 𝓜 (tables 𝓤 H 𝓜 𝓡 γ)) e)
+      (walk_Meets 𝓛 T hs gs c (WpFn 𝓤 H C Λ e) (WpFn-mono 𝓤 H (of_model 𝓤 H 𝓜) (tables_of 𝓤 H 𝓜 (tables 𝓤 H 𝓜 𝓡 γ)) e)
       (walked 𝓛 T hs c (WpFn 𝓤 H C Λ e) sp tl w))
 
 -- the one fact that a function requires, and the three

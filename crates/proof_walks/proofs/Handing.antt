@@ -42,5 +42,5 @@ module _ {M : Type 1} {𝓤 : Ura M} (𝓛 : Logic 𝓤) where
   none_passed = qed 𝓛 [] ∵ nothing ! $ nothing ! $ join ! $ nothing ! $ move ! (1 ∷ 0 ∷ []) $ join ! $ done !
 
   pub one-passed : (T : RattleType) (x : T.Denot) (vs : List Val) →
-      ent 𝓤 (sem 𝓛 (T.own x vs)) (sep 𝓤 (sep 𝓤 (emp 𝓤) (sem 𝓛 (owns (T ∷ []) (x, tt) (vs, tt)))) (emp 𝓤))
-  one-passed T x vs = qed 𝓛 (‵ (T.own x vs) ∷ []) ∵ nothing ! $ move ! (1 ∷ 0 ∷ []) $ fjoin ! $ nothing ! $ join ! $ frame ! $ done !
+      ent 𝓤 (sem 𝓛 (T.own_val x vs)) (sep 𝓤 (sep 𝓤 (emp 𝓤) (sem 𝓛 (owns (T ∷ []) (x, tt) (vs, tt)))) (emp 𝓤))
+  one-passed T x vs = qed 𝓛 (‵ (T.own_val x vs) ∷ []) ∵ nothing ! $ move ! (1 ∷ 0 ∷ []) $ fjoin ! $ nothing ! $ join ! $ frame ! $ done !

@@ -6,8 +6,8 @@ use mathlib.Core.List.{List, [], ◌∷◌}
 use lib.Dec.{T as Holds}
 use lib.ListN.{length}
 use seplogic.Ra.Ura.{Ura}
-use seplogic.Ra.TreeShare.PosShare
-use seplogic.Ra.TreeShare.{full_share}
+use base.Share
+use base.Fraction.{full_share}
 use mir.Syntax.{Ty, ty_int, tcons, tnil, w64, erased, Body as Code, seq, assign, place, field, deref, copy, addr_of, aggregate}
 use mir.Val.{Val, Vals, vptr, vint, vstruct, vcons, vnil, has_ty}
 use mir.Fields.{get_v, set_v}
@@ -80,7 +80,8 @@ module _ (R : RattleType) (κ : Lft) (q : Share) (x : MutBor (List R.Denot)) whe
         use1 𝓛 (‵ (row R full_share zs x.ref_ptr.0 x.ref_ptr.1)) (whole_out 𝓛 R zs x.ref_ptr.0 x.ref_ptr.1) $
         move ! (1 ∷ []) $ fsplit ! $ move ! (1 ∷ []) $ fsplit ! $ move ! (3 ∷ 2 ∷ 0 ∷ 1 ∷ []) $ closes_slice ! tt R ys zs e x.ref_ptr.0 x.ref_ptr.1 $
         at_once ! $
-        fjoin ! $ pure_i ! (mut_slice_at R (lent_at x x.ghost_name zs) (slice_val x.ref_ptr (length zs) ∷ [])) (tt, (tt, tt)) (refl, subst (Room R) (sym e) room)
+        fjoin ! $ pure_i ! (mut_slice_at R (lent_at x x.ghost_name zs) (slice_val x.ref_ptr (length zs) ∷ [])) (tt, (tt, tt))
+        (refl, subst (Room R) (sym e) room)
         $ fjoin ! $ done !
 
 module _ {M : Type 1} {𝓤 : Ura M} {𝓛 : Logic 𝓤} {K : Type 0} {Γ : List (Item 𝓤)} {G : Goal 𝓤 𝓛.H} (t : K) where
@@ -217,14 +218,14 @@ module _ {M : Type 1} {𝓤 : Ura M} (𝓛 : Logic 𝓤) (D : Declared) (L : LL.
   abbrev τ : Ty
   τ = layout (shape D)
 
-  pub local-laid : ent 𝓤 (sep 𝓤 (H.at full_share τ b 0 (LL.val D L g)) (sem 𝓛 (R.own g (LL.vals D L g)))) (sem 𝓛 ((mem R).own_at g b 0))
+  pub local-laid : ent 𝓤 (sep 𝓤 (H.at full_share τ b 0 (LL.val D L g)) (sem 𝓛 (R.own_val g (LL.vals D L g)))) (sem 𝓛 ((mem R).own_at g b 0))
   unfolding part_of
   local-laid =
-      qed 𝓛 (‵ (fat full_share τ b 0 (LL.val D L g)) ∷ ‵ (R.own g (LL.vals D L g)) ∷ []) ∵
+      qed 𝓛 (‵ (fat full_share τ b 0 (LL.val D L g)) ∷ ‵ (R.own_val g (LL.vals D L g)) ∷ []) ∵
       use1 𝓛 (‵ (cell_at full_share R.mir (LL.vals D L g) b 0)) (𝓛.laws.at_raw full_share τ b 0 (LL.val D L g)) $ fjoin ! $
-      fpack ! (List Val) (λ us. fsep (cell_at full_share R.mir us b 0) (R.own g us)) (LL.vals D L g) $ done !
+      fpack ! (List Val) (λ us. fsep (cell_at full_share R.mir us b 0) (R.own_val g us)) (LL.vals D L g) $ done !
 
-  pub local-lifted : ent 𝓤 (sem 𝓛 ((mem R).own_at g b 0)) (sep 𝓤 (H.at full_share τ b 0 (LL.val D L g)) (sem 𝓛 (R.own g (LL.vals D L g))))
+  pub local-lifted : ent 𝓤 (sem 𝓛 ((mem R).own_at g b 0)) (sep 𝓤 (H.at full_share τ b 0 (LL.val D L g)) (sem 𝓛 (R.own_val g (LL.vals D L g))))
   unfolding part_of
   local-lifted =
       qed 𝓛 (‵ ((mem R).own_at g b 0) ∷ []) ∵ fpick !
@@ -237,14 +238,14 @@ module _ {M : Type 1} {𝓤 : Ura M} {𝓛 : Logic 𝓤} {K : Type 0} {Γ : List
     (D : Declared) (L : LL.Laws D) (κ : Lft) (q : Share) (g : D.D) (b : ℕ) where
   pub lends_local : ((ν : ℕ) (δ : GName) →
       Seq K 𝓛 (‵ ((MutRef erased (ν ∷ κ) (Struct-Row D)).own_val (record { ref_ptr = (b, 0); ghost_name = δ; now = g }) (vptr b 0 ∷ [])) ∷
-      ‵ (flent (ν ∷ κ) (Body (mem (Struct-Row D)) b 0 δ)) ∷ ‵ (flft (ν ∷ κ) (PosShare.right q)) ∷ raw (Rest 𝓛 ν (PosShare.right q)) ∷
-      ‵ (flft κ (PosShare.left q)) ∷ Γ) G)
-      → Seq K 𝓛 (‵ (fat full_share (layout (shape D)) b 0 (LL.val D L g)) ∷ ‵ ((Struct-Row D).own g (LL.vals D L g)) ∷ ‵ (flft κ q) ∷ Γ) G
+      ‵ (flent (ν ∷ κ) (Body (mem (Struct-Row D)) b 0 δ)) ∷ ‵ (flft (ν ∷ κ) (Share.right q)) ∷ raw (Rest 𝓛 ν (Share.right q)) ∷
+      ‵ (flft κ (Share.left q)) ∷ Γ) G)
+      → Seq K 𝓛 (‵ (fat full_share (layout (shape D)) b 0 (LL.val D L g)) ∷ ‵ ((Struct-Row D).own_val g (LL.vals D L g)) ∷ ‵ (flft κ q) ∷ Γ) G
   lends_local k =
       use2 𝓛 (‵ ((mem (Struct-Row D)).own_at g b 0)) (local-laid 𝓛 D L g b) $ move t (1 ∷ []) $
-      use1 𝓛 (‵ (flft κ (PosShare.left q)) ⊛ ‵ (flft κ (PosShare.right q))) (𝓛.lfts.lft_split κ q) $ split t $
+      use1 𝓛 (‵ (flft κ (Share.left q)) ⊛ ‵ (flft κ (Share.right q))) (𝓛.lfts.lft_split κ q) $ split t $
       lft_new t z (λ ν. move t (0 ∷ 2 ∷ []) $
-      use2 𝓛 (‵ (flft (ν ∷ κ) (PosShare.right q)) ⊛ raw (Rest 𝓛 ν (PosShare.right q))) (within_token 𝓛 ν κ (PosShare.right q)) $ split t $
+      use2 𝓛 (‵ (flft (ν ∷ κ) (Share.right q)) ⊛ raw (Rest 𝓛 ν (Share.right q))) (within_token 𝓛 ν κ (Share.right q)) $ split t $
       -- [the token of the two; the way back to the made one's; half of κ's token; what lies there]
       move t (3 ∷ []) $ use1 𝓛 (later (some
       (λ (δ : GName). ‵ ((MutRef erased (ν ∷ κ) (Struct-Row D)).own_val (record { ref_ptr = (b, 0); ghost_name = δ; now = g }) (vptr b 0 ∷ [])) ⊛
@@ -252,13 +253,13 @@ module _ {M : Type 1} {𝓤 : Ura M} {𝓛 : Logic 𝓤} {K : Type 0} {Γ : List
       (lends_ref 𝓛 (Struct-Row D) erased (ν ∷ κ) g b 0) $ await t z $ pick t (λ δ. split t $ k ν δ))
 
   pub local-comes-back : {ν : ℕ} {δ : GName}
-      → Step K 𝓛 (‵ (fat full_share (layout (shape D)) b 0 (LL.val D L g)) ∷ ‵ ((Struct-Row D).own g (LL.vals D L g)) ∷ ‵ (flft κ q) ∷ Γ) G
-      (‵ (flft (ν ∷ κ) (PosShare.right q)) ∷ raw (Rest 𝓛 ν (PosShare.right q)) ∷ ‵ (flft κ (PosShare.left q)) ∷
+      → Step K 𝓛 (‵ (fat full_share (layout (shape D)) b 0 (LL.val D L g)) ∷ ‵ ((Struct-Row D).own_val g (LL.vals D L g)) ∷ ‵ (flft κ q) ∷ Γ) G
+      (‵ (flft (ν ∷ κ) (Share.right q)) ∷ raw (Rest 𝓛 ν (Share.right q)) ∷ ‵ (flft κ (Share.left q)) ∷
       ‵ (flent (ν ∷ κ) (Body (mem (Struct-Row D)) b 0 δ)) ∷ ‵ (fres δ ((Struct-Row D).coded.code g)) ∷ Γ) G
   local-comes-back {ν} {δ} =
-      step (λ s. use2 𝓛 (later (‵ (fdead (ν ∷ κ)) ⊛ ‵ (flft κ (PosShare.right q)))) (within_end 𝓛 ν κ (PosShare.right q)) $ await t z $ split t
+      step (λ s. use2 𝓛 (later (‵ (fdead (ν ∷ κ)) ⊛ ‵ (flft κ (Share.right q)))) (within_end 𝓛 ν κ (Share.right q)) $ await t z $ split t
       $
       move t (2 ∷ 1 ∷ []) $ use2 𝓛 (‵ (flft κ q)) (𝓛.lfts.lft_join κ q) $ move t (1 ∷ 2 ∷ 3 ∷ []) $
       use3 𝓛 (later (‵ ((mem (Struct-Row D)).own_at g b 0))) (ref_back 𝓛 (Struct-Row D) (ν ∷ κ) δ g b 0) $ await t z $
-      use1 𝓛 (‵ (fat full_share (layout (shape D)) b 0 (LL.val D L g)) ⊛ ‵ ((Struct-Row D).own g (LL.vals D L g))) (local-lifted 𝓛 D L g b) $
+      use1 𝓛 (‵ (fat full_share (layout (shape D)) b 0 (LL.val D L g)) ⊛ ‵ ((Struct-Row D).own_val g (LL.vals D L g))) (local-lifted 𝓛 D L g b) $
       split t $ s)

@@ -14,7 +14,8 @@ use borrow.Author.Tests.{leb-true, le-leb, lt-leb, leb-false, eqb-true, eqb-fals
 use Rattle.meaning.specs.Choice.{Bytes, pick, both, either, every, starts_with}
 use Rattle.meaning.specs.Classes.{in_class, digit, within}
 use Rattle.meaning.specs.Numerals.{decimal, two_digits, numeral_from}
-use Rattle.meaning.specs.Angles.{Operation, cut_before, cut_after, numeral_in, minutes_of, size_in, signed, with_sign, angle_in, size_text, angle_text}
+use Rattle.meaning.specs.Angles.{Operation, cut_before, cut_after, numeral_in, minutes_of, size_in, signed, with_sign, angle_in, size_text}
+use Rattle.meaning.specs.Angles.{angle_text}
 use Rattle.meaning.specs.Angles.{Angled, sum, not_angles, out_of_range, worked, max_minutes, in_range, angled_of, angled}
 use Rattle.meaning.proofs.Laws.Choosing.{not-both, some-none, both-parts, guard-some}
 
@@ -185,7 +186,8 @@ angle-is (b ∷ text) {x} e = by_sign (eqb b 45) refl e
     of_size below none e = absurd (some-none e refl)
     of_size below (some n) e = record { size = n; is = refl; value = some-injective _ _ e }
 
-    by_sign : (t : Bool) → eqb b 45 ≡ t → pick t (with_sign true (size_in text)) (with_sign false (size_in (b ∷ text))) ≡ some x → IsAngle (b ∷ text) x
+    by_sign : (t : Bool) → eqb b 45 ≡ t → pick t (with_sign true (size_in text)) (with_sign false (size_in (b ∷ text))) ≡ some x →
+        IsAngle (b ∷ text) x
     by_sign true q e =
         let s = of_size true (size_in text) e in
         subst (λ c. IsAngle (c ∷ text) x) (sym (eqb-true b 45 q))

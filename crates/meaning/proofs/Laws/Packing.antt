@@ -18,7 +18,8 @@ use Rattle.meaning.specs.Instructions.{exactly, ends, middle, Sentences, no_more
 use Rattle.meaning.specs.Packing.{Words, code_word, number_in, first_in, second_in, third_in, site_register, site_offset, length_number, length_of}
 use Rattle.meaning.specs.Packing.{span_action, truth_bit, operation_number, part_operand, test_word, test_of, store_word, store_of, action_words}
 use Rattle.meaning.specs.Packing.{action_of, actions_end, pack_actions, emission_of, unpack_actions, metric_word, metric_in, sentences_end, end_word}
-use Rattle.meaning.specs.Packing.{body_words, counts_word, pack_sentences, tests_in, stores_in, body_in, unpack_tests, unpack_stores, max_stored, body_of}
+use Rattle.meaning.specs.Packing.{body_words, counts_word, pack_sentences, tests_in, stores_in, body_in, unpack_tests, unpack_stores, max_stored}
+use Rattle.meaning.specs.Packing.{body_of}
 use Rattle.meaning.specs.Packing.{unpack_sentences, pack_functions, places_from, pack, functions_at, sound_table, unpack}
 use Rattle.meaning.proofs.Laws.Passing.{passed}
 use Rattle.meaning.proofs.Laws.Words.{word_holds, register-below, class-below, truth-below, operation-back, operation-below, length-below}
@@ -251,7 +252,8 @@ module _ (limit : ℕ) (ws junk : Words) where
       let some = packed-some limit f in
       rw (lt-ltb at (length ws) (omega arith)) (places-below (at + length (pack_sentences s)) fs (omega arith))
 
-  functions-back : (at : ℕ) {code : Code} → Packable limit code → drop at ws ≡ pack_functions code ++ junk → functions_at ws (places_from at code) ≡ code
+  functions-back : (at : ℕ) {code : Code} → Packable limit code → drop at ws ≡ pack_functions code ++ junk →
+      functions_at ws (places_from at code) ≡ code
   unfolding places_from pack_functions
   functions-back at nil h = refl
   functions-back at (cons {x = s} {xs = code} f fs) h =

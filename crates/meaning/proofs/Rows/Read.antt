@@ -48,7 +48,8 @@ answered (refused n k) number place = both (eqb n number) (eqb k place)
 
 unfoldable pub hold : List Row → Bool
 unfolding every same_bytes starts_with class_named number_from member symbols_from parts_of letters_in coming_after skip run quotation lex tokens_from
-    then_characters ends_in_part parse_pattern parse_condition parse_conditions parse_expression parse_sentence parse_sentences parse_functions unknown_call
+    then_characters ends_in_part parse_pattern parse_condition parse_conditions parse_expression parse_sentence parse_sentences parse_functions
+    unknown_call
     unknown_in_sentences unknown_in
 hold rows = every (λ r. answered (read r.text) r.number r.place) rows
 

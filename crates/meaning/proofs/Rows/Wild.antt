@@ -281,7 +281,8 @@ dr = record { register = right; add = 0; back = 0 }
 
 abbrev placeless_rows : Metric → List Row
 placeless_rows metric =
-    ended (97 ∷ 98 ∷ []) 1 (98 ∷ []) (placeless metric (look (from_place 0) 97 ∷ look (from_place 1) 98 ∷ []) (store (from_place 1) ∷ []) (out_v 0 ∷ []))
+    ended (97 ∷ 98 ∷ []) 1 (98 ∷ []) (placeless metric (look (from_place 0) 97 ∷ look (from_place 1) 98 ∷ []) (store (from_place 1) ∷ [])
+    (out_v 0 ∷ []))
     ∷
     ended (97 ∷ 98 ∷ []) 1 []
     (placeless metric (predicate_part (from_place 0) (from_end 0) lower true ∷ predicate_part (from_start 0) (from_place 0) digit true ∷ []) [] []) ∷

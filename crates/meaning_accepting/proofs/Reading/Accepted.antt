@@ -11,7 +11,8 @@ use lib.ListN.{length}
 use Rattle.meaning.specs.Choice.{Bytes, pick, both, or_else, every}
 use Rattle.meaning.specs.Tree.{Expression, end, then_character, then_symbol, then_part, then_call, Sentence, Function, Table}
 use Rattle.meaning.specs.Names.{is_known}
-use Rattle.meaning.specs.Allowed.{is_byte, allowed, allowed_function, calls_known, names_of, distinct, sentences_in, max_table, max_functions, max_sentences}
+use Rattle.meaning.specs.Allowed.{is_byte, allowed, allowed_function, calls_known, names_of, distinct, sentences_in, max_table, max_functions}
+use Rattle.meaning.specs.Allowed.{max_sentences}
 use Rattle.meaning.specs.Tokens.{outside, Placed, tokens}
 use Rattle.meaning.specs.Grammar.{IsProgram}
 use Rattle.meaning.specs.Reading.{Parsed, stopped, parsed, parse_functions, unknown_call, unknown_in_sentences, unknown_in, known, verdict, accepted}
@@ -96,7 +97,8 @@ verdict-accepted (parsed t rest) u e =
     let same = k.1 in
     (rest, ap (λ z. parsed z rest) same, rw same at k.0)
 
-allowed-parts : (t : Table) → every allowed_function t ≡ true → distinct (names_of t) ≡ true → length t ≤ max_functions → sentences_in t ≤ max_sentences
+allowed-parts : (t : Table) → every allowed_function t ≡ true → distinct (names_of t) ≡ true → length t ≤ max_functions →
+    sentences_in t ≤ max_sentences
     → unknown_in t t ≡ none → allowed t ≡ true
 allowed-parts t a d l s n =
     both_true a (both_true d (both_true (le-leb (length t) max_functions l)

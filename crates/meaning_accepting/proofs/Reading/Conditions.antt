@@ -14,9 +14,11 @@ use Rattle.meaning.specs.Tree.{Subject, of_symbol, of_part, Condition}
 use Rattle.meaning.specs.Names.{predicate_of, class_named}
 use Rattle.meaning.specs.Allowed.{member, of_pattern, all_of_pattern, spelled_identifier, max_identifier, max_name}
 use Rattle.meaning.specs.Tokens.{Token, function_name, word, quoted, sign, text_end, malformed, Placed}
-use Rattle.meaning.specs.Grammar.{standing, truth_byte, truth_string, IsSubject, symbol_subject, part_subject, IsCondition, is_condition, IsConditions}
+use Rattle.meaning.specs.Grammar.{standing, truth_byte, truth_string, IsSubject, symbol_subject, part_subject, IsCondition, is_condition}
+use Rattle.meaning.specs.Grammar.{IsConditions}
 use Rattle.meaning.specs.Grammar.{no_conditions, condition_then}
-use Rattle.meaning.specs.Reading.{Parsed, stopped, parsed, follow, where_faultless, is_sign, pass_subject, subject_fault, pass_truth, truth_on, truth_of}
+use Rattle.meaning.specs.Reading.{Parsed, stopped, parsed, follow, where_faultless, is_sign, pass_subject, subject_fault, pass_truth, truth_on}
+use Rattle.meaning.specs.Reading.{truth_of}
 use Rattle.meaning.specs.Reading.{truth_in, with_class, parse_condition, at_comma, parse_conditions, pass, pass_name, length_fault}
 use Rattle.meaning_accepting.proofs.Reading.Basics.{both_left, both_right, both_true, impossible, no_value, never_both, check-parsed, passed}
 use Rattle.meaning_accepting.proofs.Reading.Basics.{Followed, follow-parsed, Passed, pass-parsed, NamePassed, name-parsed, TokenView, a_string}

@@ -11,7 +11,8 @@ use lib.Dec.{leb}
 use lib.ListN.{length}
 use Rattle.meaning.specs.Choice.{Bytes, Name, pick, both, every, is_some, same_bytes}
 use Rattle.meaning.specs.Tree.{Expression}
-use Rattle.meaning.specs.Allowed.{is_byte, member, items_in, nesting, spelled_items, coming_after, coming_after_all, where_some, spelled_identifier, max_items}
+use Rattle.meaning.specs.Allowed.{is_byte, member, items_in, nesting, spelled_items, coming_after, coming_after_all, where_some, spelled_identifier}
+use Rattle.meaning.specs.Allowed.{max_items}
 use Rattle.meaning.specs.Allowed.{max_nesting, max_identifier}
 use Rattle.meaning.specs.Grammar.{then_characters}
 use Rattle.meaning.specs.Reading.{Item, characters, symbol_item, part_item, no_item, is_item, Progress, item_count, coming_past, coming_or, past_item}

@@ -13,7 +13,8 @@ use Rattle.meaning.specs.Names.{is_predicate}
 use Rattle.meaning.specs.Allowed.{items_in, nesting, spelled_items, spelled_name, coming_after_all, max_items, max_nesting, max_name}
 use Rattle.meaning.specs.Tokens.{Token, function_name, sign, Placed}
 use Rattle.meaning.specs.Grammar.{standing, IsExpression, no_items, string_then, symbol_then, part_then, call_then}
-use Rattle.meaning.specs.Reading.{Parsed, stopped, parsed, follow, where_faultless, pass, pass_name, item_of, is_item, is_sign, Progress, Items, Called}
+use Rattle.meaning.specs.Reading.{Parsed, stopped, parsed, follow, where_faultless, pass, pass_name, item_of, is_item, is_sign, Progress, Items}
+use Rattle.meaning.specs.Reading.{Called}
 use Rattle.meaning.specs.Reading.{past_item, past_call, item_fault, call_fault, called_fault, then_item, with_first, parse_call, parse_expression}
 use Rattle.meaning_accepting.proofs.Reading.Basics.{both_left, both_right, both_true, impossible, never_both, check-parsed, passed, Followed}
 use Rattle.meaning_accepting.proofs.Reading.Basics.{follow-parsed, Passed, pass-parsed, NamePassed, name-parsed, TokenView, a_string, a_symbol}

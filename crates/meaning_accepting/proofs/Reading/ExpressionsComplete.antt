@@ -11,10 +11,12 @@ use lib.ListN.{length}
 use Rattle.meaning.specs.Choice.{Name, both, every}
 use Rattle.meaning.specs.Tree.{Expression, end, then_character, then_symbol, then_part, then_call}
 use Rattle.meaning.specs.Names.{is_predicate}
-use Rattle.meaning.specs.Allowed.{items_in, nesting, spelled_items, spelled_name, coming_after, coming_after_all, spelled_identifier, max_items, max_nesting}
+use Rattle.meaning.specs.Allowed.{items_in, nesting, spelled_items, spelled_name, coming_after, coming_after_all, spelled_identifier, max_items}
+use Rattle.meaning.specs.Allowed.{max_nesting}
 use Rattle.meaning.specs.Tokens.{function_name, quoted, sign, Placed}
 use Rattle.meaning.specs.Grammar.{standing, symbol_word, part_word, IsExpression, no_items, string_then, symbol_then, part_then, call_then}
-use Rattle.meaning.specs.Reading.{parsed, item_of, is_item, then_item, is_sign, Progress, past_item, past_call, call_fault, called_fault, parse_expression}
+use Rattle.meaning.specs.Reading.{parsed, item_of, is_item, then_item, is_sign, Progress, past_item, past_call, call_fault, called_fault}
+use Rattle.meaning.specs.Reading.{parse_expression}
 use Rattle.meaning.proofs.Laws.Choosing.{both_some}
 use Rattle.meaning_accepting.proofs.Reading.Basics.{both_left, both_right}
 use Rattle.meaning_accepting.proofs.Reading.Sound.{spelled-name-short}

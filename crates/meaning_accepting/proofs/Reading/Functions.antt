@@ -12,7 +12,8 @@ use Rattle.meaning.specs.Tree.{Sentence}
 use Rattle.meaning.specs.Allowed.{allowed_sentence}
 use Rattle.meaning.specs.Tokens.{Token, function_name, word, quoted, sign, text_end, malformed, Placed}
 use Rattle.meaning.specs.Grammar.{standing, IsSentence, IsSentences, last_sentence, last_sentence_parted, sentence_then}
-use Rattle.meaning.specs.Reading.{Parsed, stopped, parsed, follow, whether, is_sign, begins, parse_sentence, at_sentence, after_semicolon, after_sentence}
+use Rattle.meaning.specs.Reading.{Parsed, stopped, parsed, follow, whether, is_sign, begins, parse_sentence, at_sentence, after_semicolon}
+use Rattle.meaning.specs.Reading.{after_sentence}
 use Rattle.meaning.specs.Reading.{parse_sentences}
 use Rattle.meaning_accepting.proofs.Reading.Basics.{both_left, both_right, both_true, impossible, never_both, whether-parsed, Followed}
 use Rattle.meaning_accepting.proofs.Reading.Basics.{follow-parsed, sign_of, standing-as}

@@ -11,8 +11,10 @@ use Rattle.meaning.specs.Choice.{Bytes, pick}
 use Rattle.meaning.specs.Classes.{in_class, alphabetic}
 use Rattle.meaning.specs.Allowed.{word_byte, name_byte}
 use Rattle.meaning.specs.Tokens.{Mode, outside, inside, naming, Token, function_name, word, malformed, Placed, Lexed, lexed, ahead, Gap, between}
-use Rattle.meaning.specs.Tokens.{opening, commented, starred, gap_after, Skipped, found, skipped_end, skip_on, skip, Run, run, word_at, Quoting, plain}
-use Rattle.meaning.specs.Tokens.{Turn, goes_on, closes, breaks, turn, Quotation, quote_on, quotation, quoted_at, bracket_at, token_at, token_past, lex}
+use Rattle.meaning.specs.Tokens.{opening, commented, starred, gap_after, Skipped, found, skipped_end, skip_on, skip, Run, run, word_at, Quoting}
+use Rattle.meaning.specs.Tokens.{plain}
+use Rattle.meaning.specs.Tokens.{Turn, goes_on, closes, breaks, turn, Quotation, quote_on, quotation, quoted_at, bracket_at, token_at, token_past}
+use Rattle.meaning.specs.Tokens.{lex}
 use Rattle.meaning.specs.Tokens.{mode_after, is_last_token, tokens_from}
 use Rattle.meaning.proofs.Laws.Choosing.{of_either}
 use Rattle.meaning_accepting.proofs.Reading.Basics.{impossible}

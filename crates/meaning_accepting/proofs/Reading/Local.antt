@@ -11,8 +11,10 @@ use Rattle.meaning.specs.Choice.{Bytes, pick}
 use Rattle.meaning.specs.Classes.{in_class, alphabetic}
 use Rattle.meaning.specs.Allowed.{word_byte, name_byte}
 use Rattle.meaning.specs.Tokens.{Mode, outside, inside, naming, Token, function_name, word, Placed, Lexed, lexed, ahead, Gap, between, opening}
-use Rattle.meaning.specs.Tokens.{commented, starred, gap_after, Skipped, found, skip_on, skip, Run, run, word_at, Quoting, plain, Turn, goes_on, closes}
-use Rattle.meaning.specs.Tokens.{breaks, turn, Quotation, quote_on, quotation, quoted_at, bracket_at, token_at, token_past, lex, mode_after, is_last_token}
+use Rattle.meaning.specs.Tokens.{commented, starred, gap_after, Skipped, found, skip_on, skip, Run, run, word_at, Quoting, plain, Turn, goes_on}
+use Rattle.meaning.specs.Tokens.{closes}
+use Rattle.meaning.specs.Tokens.{breaks, turn, Quotation, quote_on, quotation, quoted_at, bracket_at, token_at, token_past, lex, mode_after}
+use Rattle.meaning.specs.Tokens.{is_last_token}
 use Rattle.meaning.specs.Tokens.{tokens_from}
 use Rattle.meaning.proofs.Laws.Choosing.{no-cons}
 use Rattle.meaning_accepting.proofs.Reading.Lexing.{run-within, quotation-within, token-within, skip-eats, skip-beyond, lex-eats}

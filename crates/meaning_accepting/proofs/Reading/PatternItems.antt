@@ -10,7 +10,8 @@ use lib.Dec.{leb, ltb}
 use lib.ListN.{length, length-append}
 use Rattle.meaning.specs.Choice.{Bytes, Name, pick, both, every}
 use Rattle.meaning.specs.Tree.{character, symbol, Element, letter, part}
-use Rattle.meaning.specs.Allowed.{is_byte, spelled_element, spelled_identifier, symbols_of, symbols_from, parts_of, letters_in, parted, distinct, member}
+use Rattle.meaning.specs.Allowed.{is_byte, spelled_element, spelled_identifier, symbols_of, symbols_from, parts_of, letters_in, parted, distinct}
+use Rattle.meaning.specs.Allowed.{member}
 use Rattle.meaning.specs.Allowed.{added, max_letters, max_symbols, max_identifier}
 use Rattle.meaning.specs.Grammar.{characters_of}
 use Rattle.meaning.specs.Reading.{Item, characters, symbol_item, part_item, no_item, elements_of, pattern_fault, ends_in_part}
@@ -113,7 +114,8 @@ module _ (a : List Element) (x : Name) where
         known = rw symbol-adds k;
       }
 
-  symbol-different : PatternFacts (a ++ letter (symbol x) ∷ []) → (distinct (symbols_of a ++ parts_of a) ≡ true) × (not (member x (parts_of a)) ≡ true)
+  symbol-different : PatternFacts (a ++ letter (symbol x) ∷ []) →
+      (distinct (symbols_of a ++ parts_of a) ≡ true) × (not (member x (parts_of a)) ≡ true)
   symbol-different f =
       added-before (member x (symbols_of a)) x (symbols_of a) (parts_of a) refl (rw (symbol-adds, symbol-same-parts) at f.different)
 

@@ -9,7 +9,8 @@ use Rattle.meaning.specs.Choice.{Bytes, Name, pick}
 use Rattle.meaning.specs.Tree.{Element, letter, part}
 use Rattle.meaning.specs.Allowed.{parts_of, parted}
 use Rattle.meaning.specs.Tokens.{Token, Placed}
-use Rattle.meaning.specs.Grammar.{standing, symbol_word, part_word, characters_of, IsLetters, string_letters, variable_letter, IsTemplate, letters_alone}
+use Rattle.meaning.specs.Grammar.{standing, symbol_word, part_word, characters_of, IsLetters, string_letters, variable_letter, IsTemplate}
+use Rattle.meaning.specs.Grammar.{letters_alone}
 use Rattle.meaning.specs.Grammar.{letters_then, IsTemplateOrNone, no_template, some_template, IsPattern, no_part, one_part, two_parts}
 use Rattle.meaning.specs.Reading.{parsed, where_faultless, Item, no_item, item_of, is_item, elements_of, pattern_fault, parse_pattern}
 use Rattle.meaning.proofs.Laws.Choosing.{no-cons}

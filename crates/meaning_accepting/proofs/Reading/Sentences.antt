@@ -9,8 +9,10 @@ use lib.Dec.{leb}
 use lib.ListN.{length}
 use Rattle.meaning.specs.Choice.{Name, pick, every, is_some}
 use Rattle.meaning.specs.Tree.{character, symbol, Element, letter, part, Condition, Expression, Sentence}
-use Rattle.meaning.specs.Allowed.{spelled_element, spelled_identifier, member, added, symbols_of, symbols_from, parts_of, letters_in, parted, distinct}
-use Rattle.meaning.specs.Allowed.{items_in, nesting, spelled_items, coming_after_all, max_items, max_nesting, max_conditions, allowed_pattern, all_of_pattern}
+use Rattle.meaning.specs.Allowed.{spelled_element, spelled_identifier, member, added, symbols_of, symbols_from, parts_of, letters_in, parted}
+use Rattle.meaning.specs.Allowed.{distinct}
+use Rattle.meaning.specs.Allowed.{items_in, nesting, spelled_items, coming_after_all, max_items, max_nesting, max_conditions, allowed_pattern}
+use Rattle.meaning.specs.Allowed.{all_of_pattern}
 use Rattle.meaning.specs.Allowed.{allowed_conditions, allowed_expression, allowed_sentence}
 use Rattle.meaning.specs.Tokens.{sign, Placed}
 use Rattle.meaning.specs.Grammar.{standing, IsPattern, IsConditions, no_conditions, condition_then, IsSentence, is_sentence}

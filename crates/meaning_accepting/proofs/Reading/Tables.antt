@@ -13,7 +13,8 @@ use Rattle.meaning.specs.Allowed.{allowed_sentence, allowed_function, some_sente
 use Rattle.meaning.specs.Tokens.{Token, function_name, word, quoted, sign, text_end, malformed, Placed}
 use Rattle.meaning.specs.Grammar.{standing, IsSentences, last_sentence, last_sentence_parted, sentence_then, IsFunction, is_function, IsProgram}
 use Rattle.meaning.specs.Grammar.{no_functions, function_then, function_parted_then}
-use Rattle.meaning.specs.Reading.{Parsed, stopped, parsed, follow, pass, is_sign, is_text_end, parse_sentences, pass_spare, declared_fault, parse_function}
+use Rattle.meaning.specs.Reading.{Parsed, stopped, parsed, follow, pass, is_sign, is_text_end, parse_sentences, pass_spare, declared_fault}
+use Rattle.meaning.specs.Reading.{parse_function}
 use Rattle.meaning.specs.Reading.{at_function, parse_functions}
 use Rattle.meaning_accepting.proofs.Reading.Basics.{both_left, both_right, both_true, impossible, never_both, passed, Followed, follow-parsed}
 use Rattle.meaning_accepting.proofs.Reading.Basics.{Passed, pass-parsed, NamePassed, name-parsed, sign_of, standing-as}
@@ -183,7 +184,8 @@ abbrev pub after_function : Rest → ℕ → Table → Function → List Placed 
 after_function next sentences_left before f rest = next (sentences_left - length f.sentences) (before ++ f ∷ []) (pass_spare rest)
 
 module _ (left sentences_left : ℕ) (before : Table) {ts : List Placed} {table : Table} {rest : List Placed} (next : Rest) where
-  one_more_lem : (p : Followed Function Table (parse_function (declared_fault before) sentences_left ts) (after_function next sentences_left before) table
+  one_more_lem : (p : Followed Function Table (parse_function (declared_fault before) sentences_left ts) (after_function next sentences_left before)
+      table
       rest)
       → FunctionRead (declared_fault before) sentences_left ts p.value p.between
       → FunctionsRead left (sentences_left - length p.value.sentences) (before ++ p.value ∷ []) (pass_spare p.between) table
@@ -231,7 +233,8 @@ functions-sound (suc left) sentences_left before (t ∷ ts) table rest k d e =
     functions-step (suc left) sentences_left before t ts (is_text_end t.token)
     (follow (parse_function (declared_fault before) sentences_left (t ∷ ts)) (after_function (parse_functions left) sentences_left before)) refl k d
     (λ g.
-    let p = follow-parsed (parse_function (declared_fault before) sentences_left (t ∷ ts)) (after_function (parse_functions left) sentences_left before)
+    let p = follow-parsed (parse_function (declared_fault before) sentences_left (t ∷ ts))
+    (after_function (parse_functions left) sentences_left before)
     g in
     let r = function-sound (declared_fault before) sentences_left (t ∷ ts) k p.before in
     one_more_lem left sentences_left before (parse_functions left) p r
@@ -289,7 +292,8 @@ first_read : (left : ℕ) {sentences_left : ℕ} {before : Table} {ts rest : Lis
 unfolding parse_functions
 first_read left {sentences_left} {before} d o =
     rw (
-      at-function d before (follow (parse_function (declared_fault before) sentences_left _) (after_function (parse_functions left) sentences_left before)),
+      at-function d before (follow (parse_function (declared_fault before) sentences_left _)
+          (after_function (parse_functions left) sentences_left before)),
       function-complete (declared_fault before) sentences_left d o.faultless o.own o.room,
     )
 

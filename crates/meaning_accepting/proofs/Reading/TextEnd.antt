@@ -11,7 +11,8 @@ use Rattle.meaning.specs.Choice.{Bytes, pick}
 use Rattle.meaning.specs.Classes.{in_class, alphabetic}
 use Rattle.meaning.specs.Allowed.{word_byte, name_byte}
 use Rattle.meaning.specs.Tokens.{Mode, outside, inside, naming, quoted, sign, malformed, Placed, Lexed, lexed, ahead, Gap, between, opening}
-use Rattle.meaning.specs.Tokens.{commented, starred, gap_after, Skipped, found, skipped_end, skip_on, skip, run, word_at, Quoting, plain, Turn, goes_on}
+use Rattle.meaning.specs.Tokens.{commented, starred, gap_after, Skipped, found, skipped_end, skip_on, skip, run, word_at, Quoting, plain, Turn}
+use Rattle.meaning.specs.Tokens.{goes_on}
 use Rattle.meaning.specs.Tokens.{closes, breaks, turn, Quotation, quote_on, quotation, quoted_at, bracket_at, token_at, token_past, lex, mode_after}
 use Rattle.meaning.specs.Tokens.{tokens_from, tokens}
 use Rattle.meaning.specs.Reading.{is_text_end}

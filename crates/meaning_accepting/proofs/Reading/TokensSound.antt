@@ -10,7 +10,8 @@ use Rattle.meaning.specs.Classes.{in_class, digit, alphabetic}
 use Rattle.meaning.specs.Allowed.{is_byte, word_byte, name_byte}
 use Rattle.meaning.specs.Tokens.{Mode, outside, inside, naming, Token, function_name, word, quoted, sign, text_end, malformed, Placed, Lexed, ahead}
 use Rattle.meaning.specs.Tokens.{Gap, between, opening, commented, starred, gap_after, Skipped, found, unclosed, skipped_end, skip_on, skip, Run, run}
-use Rattle.meaning.specs.Tokens.{name_token, word_token, word_at, Quoting, plain, escaped, coded, Turn, goes_on, closes, breaks, plain_turn, code_turn}
+use Rattle.meaning.specs.Tokens.{name_token, word_token, word_at, Quoting, plain, escaped, coded, Turn, goes_on, closes, breaks, plain_turn}
+use Rattle.meaning.specs.Tokens.{code_turn}
 use Rattle.meaning.specs.Tokens.{escaped_turn, digit_value, turn, Quotation, closed, broken, quote_on, quotation, quoted_at, bracket_at, token_at}
 use Rattle.meaning.specs.Tokens.{token_past, lex, mode_after, is_last_token, tokens_from}
 use Rattle.meaning.proofs.Laws.Choosing.{of_either}
@@ -39,7 +40,8 @@ skipped-end-sound (opening slash) at = refl
 skipped-end-sound (commented slash) at = refl
 skipped-end-sound (starred slash) at = refl
 
-skip-on-sound : (o : Option Gap) (next : Gap → Skipped) (stays : Skipped) → ((gap : Gap) → sound_skipped (next gap) ≡ true) → sound_skipped stays ≡ true
+skip-on-sound : (o : Option Gap) (next : Gap → Skipped) (stays : Skipped) → ((gap : Gap) → sound_skipped (next gap) ≡ true) →
+    sound_skipped stays ≡ true
     → sound_skipped (skip_on o next stays) ≡ true
 skip-on-sound none next stays p q = q
 skip-on-sound (some gap) next stays p q = p gap
@@ -105,7 +107,8 @@ run-spelled fits spelling at b rest f s spelled =
 
 -- what is read from a letter on
 abbrev SoundAt : (ℕ → Bytes → Lexed) → Type 0
-SoundAt lexed_at = (at b : ℕ) (rest : Bytes) → in_class alphabetic b ≡ true → every is_byte (b ∷ rest) ≡ true → sound_lexed (lexed_at at (b ∷ rest)) ≡ true
+SoundAt lexed_at = (at b : ℕ) (rest : Bytes) → in_class alphabetic b ≡ true → every is_byte (b ∷ rest) ≡ true →
+    sound_lexed (lexed_at at (b ∷ rest)) ≡ true
 
 name-at-sound : SoundAt (λ at bytes. name_token at (run name_byte [] at bytes))
 name-at-sound at b rest a s = run-spelled name_byte name_spelling at b rest (rw a) s (λ more f. both_true a f)

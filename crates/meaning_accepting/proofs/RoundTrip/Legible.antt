@@ -6,7 +6,8 @@ use mathlib.Core.Option.{some}
 use Rattle.meaning.specs.Choice.{Name, both, every, is_some}
 use Rattle.meaning.specs.Tree.{Expression, end, then_character, then_symbol, then_part, then_call}
 use Rattle.meaning.specs.Names.{is_predicate}
-use Rattle.meaning.specs.Allowed.{is_byte, spelled_name, spelled_identifier, member, coming_after, coming_after_all, spelled_items, allowed_expression}
+use Rattle.meaning.specs.Allowed.{is_byte, spelled_name, spelled_identifier, member, coming_after, coming_after_all, spelled_items}
+use Rattle.meaning.specs.Allowed.{allowed_expression}
 use Rattle.meaning.proofs.Laws.Choosing.{given-some, both_some}
 use Rattle.meaning_accepting.proofs.Reading.Basics.{both_left, both_right, both_true}
 use Rattle.meaning_accepting.proofs.Reading.Lists.{member-every}
@@ -53,5 +54,6 @@ spelled-legible symbols known (then_call place n a e) coming spelled items order
 pub allowed-legible : (symbols parts : List Name) (e : Expression) → every spelled_identifier symbols ≡ true → every spelled_identifier parts ≡ true →
     allowed_expression symbols parts e ≡ true → legible e ≡ true
 allowed-legible symbols parts e known spelled allows =
-    let order = given-some (coming_after_all e parts) (both_left (is_some (coming_after_all e parts)) _ (both_right (spelled_items symbols e) _ allows)) in
+    let order = given-some (coming_after_all e parts)
+    (both_left (is_some (coming_after_all e parts)) _ (both_right (spelled_items symbols e) _ allows)) in
     (spelled-legible symbols known e parts spelled (both_left (spelled_items symbols e) _ allows) order.is).whole

@@ -9,7 +9,8 @@ use Rattle.meaning.specs.Tree.{character, symbol, Element, letter, part, Express
 use Rattle.meaning.specs.Allowed.{is_byte, spelled_element, spelled_identifier, nesting, allowed_pattern}
 use Rattle.meaning.specs.Tokens.{inside, Placed}
 use Rattle.meaning.specs.Grammar.{characters_of, then_characters, IsPattern}
-use Rattle.meaning.specs.Listing.{Quoted, unquoted, close_quote, quoted_character, after_character, symbol_text, part_text, pattern_text, expression_text}
+use Rattle.meaning.specs.Listing.{Quoted, unquoted, close_quote, quoted_character, after_character, symbol_text, part_text, pattern_text}
+use Rattle.meaning.specs.Listing.{expression_text}
 use Rattle.meaning.specs.Reading.{Item, characters, symbol_item, part_item, no_item, item_of, elements_of, then_item}
 use Rattle.meaning_accepting.proofs.Reading.Basics.{both_left, both_right, both_true}
 use Rattle.meaning_accepting.proofs.Reading.PatternFacts.{pattern-facts}

@@ -5,12 +5,14 @@ use mathlib.Core.Bool.{Bool, not}
 use mathlib.Core.List.{List, [], ◌∷◌, ◌++◌, map}
 use lib.ListN.{length-map}
 use Rattle.meaning.specs.Choice.{Name, Named, pick, both, every, same_bytes}
-use Rattle.meaning.specs.Tree.{Expression, end, then_character, then_symbol, then_part, then_call, Sentence, Function, Table, unplaced, unplaced_sentence}
+use Rattle.meaning.specs.Tree.{Expression, end, then_character, then_symbol, then_part, then_call, Sentence, Function, Table, unplaced}
+use Rattle.meaning.specs.Tree.{unplaced_sentence}
 use Rattle.meaning.specs.Tree.{unplaced_function, unplaced_table}
 use Rattle.meaning.specs.Names.{is_predicate, number_from, number_of, recover_prefix, recoverer_of}
 use Rattle.meaning.specs.Allowed.{is_byte, member, spelled_name, symbols_of, parts_of, items_in, nesting, spelled_items, coming_after, where_some}
 use Rattle.meaning.specs.Allowed.{coming_after_all, allowed_sentence, some_sentence, allowed_function, sentences_in, calls_known, names_of, allowed}
-use Rattle.meaning.specs.Listing.{Quoted, unquoted, close_quote, quoted_character, after_character, symbol_text, part_text, expression_text, sentences_text}
+use Rattle.meaning.specs.Listing.{Quoted, unquoted, close_quote, quoted_character, after_character, symbol_text, part_text, expression_text}
+use Rattle.meaning.specs.Listing.{sentences_text}
 use Rattle.meaning.specs.Listing.{listing}
 use Rattle.meaning.specs.Instructions.{Site, Action, go, select, out}
 use Rattle.meaning.specs.Translation.{Shape, Stand, Level, outermost, in_argument, in_tail, is_end, in_tail_position, manner_of, level_in, left_for}

@@ -22,7 +22,8 @@ record Goes (state : Quoting) (characters : Bytes) (at : ℕ) (bytes : Bytes) (s
   place : ℕ
   same : quotation state characters at bytes ≡ quotation state' characters' place rest
 
-goes_on_lem : {state state' : Quoting} {characters characters' : Bytes} (at b : ℕ) (rest : Bytes) → turn state characters b ≡ goes_on state' characters' →
+goes_on_lem : {state state' : Quoting} {characters characters' : Bytes} (at b : ℕ) (rest : Bytes) →
+    turn state characters b ≡ goes_on state' characters' →
     Goes state characters at (b ∷ rest) state' characters' rest
 unfolding quotation
 goes_on_lem at b rest e = record { place = suc at; same = rw e }
@@ -116,8 +117,8 @@ either_true true = refl
 either_true false = refl
 
 -- a bare byte is no digit right after a code
-bare-digit : (state : Quoted) (c : ℕ) → is_coded state c ≡ false → eqb c 9 ≡ false → eqb c 10 ≡ false → both (is_after_code state) (in_class digit c) ≡
-    false
+bare-digit : (state : Quoted) (c : ℕ) → is_coded state c ≡ false → eqb c 9 ≡ false → eqb c 10 ≡ false →
+    both (is_after_code state) (in_class digit c) ≡ false
 bare-digit state c k t n = go (both (is_after_code state) (in_class digit c)) refl
   where
     go : (d : Bool) → both (is_after_code state) (in_class digit c) ≡ d → both (is_after_code state) (in_class digit c) ≡ false
@@ -202,9 +203,9 @@ joined-read : {state : Quoted} {quoting : Quoting} {characters meant : Bytes} �
     Closes quoting characters at (joined state text ++ rest) (meant ++ text) rest
 unfolding joined every
 joined-read {meant = meant} m [] bytes at rest = rw (append-nil meant) (closing-read m at rest)
-joined-read {state} {meant = meant} m (c ∷ text) bytes at rest =
+joined-read {state = state} {meant = meant} m (c ∷ text) bytes at rest =
     let first = character-read m c at (joined (after_character state c) text ++ rest) (both_left (is_byte c) _ bytes) in
-    let later = joined-read first.matches text (both_right (is_byte c) _ bytes) first.goes.place rest in
+    let later = joined-read {state = after_character state c} first.matches text (both_right (is_byte c) _ bytes) first.goes.place rest in
     rw (inside-text c text rest m, ← append_assoc meant (c ∷ []) text)
     record { past = later.past; same = first.goes.same ∙ later.same }
 

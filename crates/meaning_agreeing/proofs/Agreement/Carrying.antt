@@ -13,7 +13,8 @@ use Rattle.meaning.specs.Choice.{Bytes, nth}
 use Rattle.meaning.specs.Angles.{Operation, Angled, sum, not_angles, out_of_range, angled}
 use Rattle.meaning.specs.Outcome.{pay, Outcome, done, stop, and_then, computed}
 use Rattle.meaning.specs.Rewriting.{Course, emitting, tally_of, before}
-use Rattle.meaning.specs.Instructions.{Length, null, whole, left, right, Span, Action, go, select, out, out_c, out_v, begin_seq, use_seq, call, tail_call}
+use Rattle.meaning.specs.Instructions.{Length, null, whole, left, right, Span, Action, go, select, out, out_c, out_v, begin_seq, use_seq, call}
+use Rattle.meaning.specs.Instructions.{tail_call}
 use Rattle.meaning.specs.Instructions.{emission, compute, Code}
 use Rattle.meaning.specs.Machine.{Ledger, Stacks, Local, Ran, register_of, span_of, is_declared, after_field, returned, with_opened, max_opened}
 use Rattle.meaning.specs.Machine.{where_payable, process}
@@ -104,7 +105,8 @@ module _ (code : Code) (enter : Applying) (frame : ℕ) (more : List Action) (l 
   value-law k b n i o e = rw e
 
   pub begin-law : (i o : Bytes) (n : ℕ) → length l.opened < max_opened →
-      doing code enter frame (begin_seq ∷ more) l (stacks i n o) t ≡ doing code enter frame more (with_opened (length o ∷ l.opened) l) (stacks i n o) t
+      doing code enter frame (begin_seq ∷ more) l (stacks i n o) t ≡
+      doing code enter frame more (with_opened (length o ∷ l.opened) l) (stacks i n o) t
   unfolding process
   begin-law i o n h = rw (le-leb (suc (length l.opened)) max_opened h)
 

@@ -19,7 +19,8 @@ use Rattle.meaning.specs.Instructions.{Site, Action, go, select, out, use_seq, c
 use Rattle.meaning.specs.Machine.{Stacks, Local, span_of, is_declared, after_field, returned, with_opened, max_opened, where_payable, process}
 use Rattle.meaning.specs.Runs.{endless}
 use Rattle.meaning.specs.Translation.{Shape, fixed, open₁, open₂, Stand, at_start, passage_first, passage_second, passage, rest_of, nowhere, replaces}
-use Rattle.meaning.specs.Translation.{nests, Level, outermost, in_argument, in_tail, is_end, in_tail_position, manner_as, manner_of, level_in, is_none}
+use Rattle.meaning.specs.Translation.{nests, Level, outermost, in_argument, in_tail, is_end, in_tail_position, manner_as, manner_of, level_in}
+use Rattle.meaning.specs.Translation.{is_none}
 use Rattle.meaning.specs.Translation.{ends_pattern, left_for, where_left, value_number, argument_ready, calling, item_actions, passes_rest}
 use Rattle.meaning.specs.Translation.{translated_function, translate}
 use Rattle.meaning_agreeing.proofs.Laws.Translated.{number-low}
@@ -252,7 +253,8 @@ module _ (table : Table) (shape : Shape) (sites : List (Named Site)) (bound : Bi
           selected ∙
           tail-law (translate table) enter frame [] (with_opened others l) t f _ declared)
 
-      moves : from (length before ∷ others) (go (rest_of shape w₁) ∷ argument_ready (tail_call f ∷ [])) w₁ ((before ++ written) ++ m.piece) t ≡ applied
+      moves : from (length before ∷ others) (go (rest_of shape w₁) ∷ argument_ready (tail_call f ∷ [])) w₁ ((before ++ written) ++ m.piece) t ≡
+          applied
       moves =
           rw (append_assoc before written m.piece)
           (go-law (translate table) enter frame _ (with_opened (length before ∷ others) l) t (rest_of shape w₁) (standing.remaining w₁) below
@@ -323,7 +325,8 @@ module _ (table : Table) (shape : Shape) (sites : List (Named Site)) (bound : Bi
   unfolding item_actions evaluate nesting
   expressed the_end b k opened o t ending h = rw append-nil
   expressed {w} {w₁} (a_character {c} {e} sound) b k opened o t ending h =
-      character-law (translate table) enter frame (item_actions table shape sites b e w k) (with_opened opened l) t c 0 (standing.remaining w ++ below)
+      character-law (translate table) enter frame (item_actions table shape sites b e w k) (with_opened opened l) t c 0
+      (standing.remaining w ++ below)
       o ∙
       expressed sound b k opened (o ++ c ∷ []) t (ending-on (translate table) shape b k opened o ending _) h ∙
       into-written (c ∷ []) o (evaluate (call_named table apply) bound e t) (λ text t₁. from opened (k w₁) w₁ text t₁)

@@ -12,7 +12,8 @@ use Rattle.meaning.specs.Rewriting.{sentences_of, function_at}
 use Rattle.meaning.specs.Allowed.{max_nesting, member, added, symbols_from, symbols_of, parts_of, all_of_pattern, distinct, nesting, spelled_items}
 use Rattle.meaning.specs.Allowed.{coming_after_all, allowed_sentence, allowed_function, calls_known, allowed}
 use Rattle.meaning.specs.Instructions.{Site, from_start, from_place}
-use Rattle.meaning.specs.Translation.{Shape, fixed, open₁, open₂, shape_of, Tested, tested_symbol, tested_letter, tested_template, before_end, untested}
+use Rattle.meaning.specs.Translation.{Shape, fixed, open₁, open₂, shape_of, Tested, tested_symbol, tested_letter, tested_template, before_end}
+use Rattle.meaning.specs.Translation.{untested}
 use Rattle.meaning.specs.Translation.{tested_shape, at_start}
 use Rattle.meaning.proofs.Laws.Choosing.{given-some, same_bytes_lem, names_in, names-append, member-bound, distinct-second}
 use Rattle.meaning.proofs.Laws.Choosing.{both_left, both_right, both-pair, passed-true, true-passed, every-nth}

@@ -17,7 +17,8 @@ use Rattle.meaning.specs.Rewriting.{Bindings, unbound, hold, shortest, with_symb
 use Rattle.meaning.specs.Allowed.{where_some, all_of_pattern}
 use Rattle.meaning.specs.Instructions.{Site, from_start, from_place}
 use Rattle.meaning.specs.Matching.{Checked, where_passed, check_all, search, places_of, first_place, find_place, stored_values}
-use Rattle.meaning.specs.Translation.{Shape, fixed, open₁, open₂, metric_of, Tested, tested_template, before_end, untested, tested_shape, condition_test}
+use Rattle.meaning.specs.Translation.{Shape, fixed, open₁, open₂, metric_of, Tested, tested_template, before_end, untested, tested_shape}
+use Rattle.meaning.specs.Translation.{condition_test}
 use Rattle.meaning.specs.Translation.{tests_of, at_start}
 use Rattle.meaning.proofs.Laws.Choosing.{names_in}
 use Rattle.meaning.proofs.Laws.Choosing.{true-passed, where-same, where-none, where-strict}

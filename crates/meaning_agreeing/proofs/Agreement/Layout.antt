@@ -13,7 +13,8 @@ use Rattle.meaning.specs.Rewriting.{Bindings}
 use Rattle.meaning.specs.Allowed.{member, coming_after}
 use Rattle.meaning.specs.Instructions.{from_start, from_end, from_place}
 use Rattle.meaning.specs.Machine.{Local, span_of}
-use Rattle.meaning.specs.Translation.{Shape, fixed, open₁, open₂, Stand, at_start, after_first, after_second, passage_one, passage_first, gap_to_second}
+use Rattle.meaning.specs.Translation.{Shape, fixed, open₁, open₂, Stand, at_start, after_first, after_second, passage_one, passage_first}
+use Rattle.meaning.specs.Translation.{gap_to_second}
 use Rattle.meaning.specs.Translation.{passage_second, passage, rest_of, from_to, bounds_of}
 use Rattle.meaning_agreeing.proofs.Agreement.Standing.{coming_at, Move}
 use Rattle.meaning_agreeing.proofs.Agreement.Cells.{Between, between-shows, end_before}
@@ -121,7 +122,8 @@ module _ (h : List Letter) (x : Name) (m : List Letter) (y : Name) (t : List Let
           between-shows field₂ hs p (ms ++ (r ++ ts)) (length hs + length p) refl (from_to (from_start (length h)) (from_place 0)) (rw size_head)
           (ap some (omega arith))
       bounds false true in₂ =
-          between-shows field₂ (hs ++ (p ++ ms)) r ts (length hs + length p) (simp append_assoc) (from_to (from_place (length m)) (from_end (length t)))
+          between-shows field₂ (hs ++ (p ++ ms)) r ts (length hs + length p) (simp append_assoc)
+          (from_to (from_place (length m)) (from_end (length t)))
           (ap some (simp length-append (omega arith))) (end_before (length t) _ _ (length hs + length p) (simp length-append (omega arith)))
       bounds false false in₂ = absurd in₂
 

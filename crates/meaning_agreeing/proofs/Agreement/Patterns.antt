@@ -88,7 +88,8 @@ match-letter (character c) es cs b text bound = guarded (eqb c b)
     guarded false = refl
 match-letter (symbol x) es cs b text bound = taken (take_symbol x b bound.symbols)
   where
-    taken : (o : Option (List (Named ℕ))) → match_rest (match es cs text) bound o ≡ where_some o (λ known. match es cs text (with_symbols bound known))
+    taken : (o : Option (List (Named ℕ))) → match_rest (match es cs text) bound o ≡
+        where_some o (λ known. match es cs text (with_symbols bound known))
     taken none = refl
     taken (some known) = refl
 

@@ -7,7 +7,8 @@ use lib.ListN.{length}
 use Rattle.meaning.specs.Choice.{Bytes, or_else, nth}
 use Rattle.meaning.specs.Tree.{Sentence, Table}
 use Rattle.meaning.specs.Outcome.{Outcome}
-use Rattle.meaning.specs.Rewriting.{Course, Bindings, Fit, fitted, choose, sentences_of, function_at, evaluate, call_named, recoverer_for, recoverer_at}
+use Rattle.meaning.specs.Rewriting.{Course, Bindings, Fit, fitted, choose, sentences_of, function_at, evaluate, call_named, recoverer_for}
+use Rattle.meaning.specs.Rewriting.{recoverer_at}
 use Rattle.meaning.specs.Matching.{Found, Choice, chosen, chosen_none, choice_of, choose_from, stored_values}
 use Rattle.meaning.specs.Machine.{function_of, code_at, started}
 use Rattle.meaning.specs.Runs.{endless}
@@ -54,7 +55,8 @@ code-at table zero = refl
 code-at table (suc i) = there table i
   where
     there : (fs : Table) (i : ℕ) →
-        function_of (nth i (map (translated_function table) fs)) ≡ translated_sentences table (recoverer_for table (nth i fs)) (sentences_of (nth i fs))
+        function_of (nth i (map (translated_function table) fs)) ≡
+        translated_sentences table (recoverer_for table (nth i fs)) (sentences_of (nth i fs))
     there [] i = refl
     there (f ∷ fs) zero = refl
     there (f ∷ fs) (suc i) = there fs i

@@ -55,7 +55,8 @@ module _ (table : Table) (shape : Shape) (sites : List (Named Site)) (bound : Bi
       record { after = r.after; sound = a_part m r.sound; coming = r.coming }
   sounds (then_call place n a e) w later spelled coming calls =
       let known = both-pair (is_known table n) (both (calls_known table a) (calls_known table e)) calls in
-      let named = both_right (both (spelled_name n) (not (is_predicate n))) (both (spelled_items (names_in sites) a) (spelled_items (names_in sites) e))
+      let named = both_right (both (spelled_name n) (not (is_predicate n)))
+      (both (spelled_items (names_in sites) a) (spelled_items (names_in sites) e))
       spelled in
       let p = both-pair (spelled_items (names_in sites) a) (spelled_items (names_in sites) e) named in
       let k = both-pair (calls_known table a) (calls_known table e) known.1 in

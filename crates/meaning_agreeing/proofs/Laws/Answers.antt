@@ -9,7 +9,8 @@ use Rattle.meaning.specs.Tree.{Expression, end, then_character, then_symbol, the
 use Rattle.meaning.specs.Angles.{Angled, sum, not_angles, out_of_range, angled}
 use Rattle.meaning.specs.Names.{Calling, as_emission, as_angles, as_function, calling_of, number_of}
 use Rattle.meaning.specs.Outcome.{Outcome, done, stop, and_then, computed, result_of}
-use Rattle.meaning.specs.Rewriting.{Course, unbegun, take_step, tallied, Bindings, Fit, symbol_bytes, part_bytes, before, evaluate, function_at, choose}
+use Rattle.meaning.specs.Rewriting.{Course, unbegun, take_step, tallied, Bindings, Fit, symbol_bytes, part_bytes, before, evaluate, function_at}
+use Rattle.meaning.specs.Rewriting.{choose}
 use Rattle.meaning.specs.Rewriting.{called_as, call_named, recoverer_at, unfitted as unfitted_at, rewritten, applied, apply, rewrite}
 
 -- an answer with its function number

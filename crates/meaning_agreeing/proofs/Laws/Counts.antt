@@ -1,14 +1,11 @@
 -- 02, T-01: a count for each function, kept by the machine, is the function's applications in rewriting's own history.
 use Prim.Native.Nat.{ℕ, zero, suc, ◌+◌, ◌≤◌, ◌<◌}
 use native.Mathlib.Omega.{arith}
-use mathlib.Core.Path.{◌≡◌, refl, sym, ap, ◌∙◌}
-use mathlib.Core.Bool.{Bool, true, false}
+use mathlib.Core.Path.{◌≡◌, refl, sym}
 use mathlib.Core.List.{List, [], ◌∷◌}
 use mathlib.Core.Option.{Option, none, some}
-use lib.Dec.{eqb}
 use lib.ListN.{length, get_or, set}
 use borrow.Author.Tests.{eq-eqb, ne_eqb}
-use Rattle.meaning.specs.Choice.{pick}
 use Rattle.meaning.proofs.Laws.Packable.{All, nil, cons}
 use Rattle.meaning.specs.Outcome.{Tally, max_counted, uncounted, counted, pay}
 use Rattle.meaning.specs.Rewriting.{Course, take_step, took_from, applications, applications_from, tally_of}

@@ -11,7 +11,8 @@ use Rattle.meaning.specs.Outcome.{Tally, fresh, counted, pay, emitted, Outcome, 
 use Rattle.meaning.specs.Tree.{Expression, end, then_character, then_symbol, then_part, then_call, Table}
 use Rattle.meaning.specs.Angles.{Angled, sum, not_angles, out_of_range, angled}
 use Rattle.meaning.specs.Names.{number_of, Calling, as_emission, as_angles, as_function, calling_of}
-use Rattle.meaning.specs.Rewriting.{Course, unbegun, take_step, tally_of, Bindings, symbol_bytes, part_bytes, before, evaluate, Fit, choose, function_at}
+use Rattle.meaning.specs.Rewriting.{Course, unbegun, take_step, tally_of, Bindings, symbol_bytes, part_bytes, before, evaluate, Fit, choose}
+use Rattle.meaning.specs.Rewriting.{function_at}
 use Rattle.meaning.specs.Rewriting.{call_named, recoverer_at, unfitted, rewritten, applied, apply, called_as}
 use Rattle.meaning.specs.Instructions.{Code}
 use Rattle.meaning.specs.Machine.{Noted, onward, halt, Watch, Ledger, Stacks, with_tally, after_note, where_payable, ran_paid, enter}

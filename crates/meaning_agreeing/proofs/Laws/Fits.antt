@@ -12,7 +12,8 @@ use lib.ListN.{length}
 use Rattle.meaning.specs.Choice.{Bytes, Name, pick, or_else, is_some, every, Named, same_bytes, lookup}
 use Rattle.meaning.specs.Classes.{Class, in_class}
 use Rattle.meaning.specs.Tree.{Letter, character, symbol, Element, letter, part, Subject, of_symbol, of_part, Condition}
-use Rattle.meaning.specs.Rewriting.{Bindings, unbound, agreed, take_symbol, asked_of, holds_for, hold, shortest, with_symbols, with_part, match_rest, match}
+use Rattle.meaning.specs.Rewriting.{Bindings, unbound, agreed, take_symbol, asked_of, holds_for, hold, shortest, with_symbols, with_part, match_rest}
+use Rattle.meaning.specs.Rewriting.{match}
 use Rattle.meaning.specs.Rewriting.{part_bytes}
 use Rattle.meaning.specs.Fits.{one_byte, stands_for, joined, filled, Fits}
 use Rattle.meaning.specs.Allowed.{member, added, symbols_from, symbols_of, parts_of, parted, distinct, spelled_element, allowed_pattern, of_pattern}
@@ -328,7 +329,8 @@ best-symbol x p cs text bound fit on kept f after =
 best-piece : (x : Name) (p : List Element) (cs : List Condition) (text : Bytes) (bound fit : Bindings) → distinct (x ∷ parts_of p) ≡ true →
     Fresh (x ∷ parts_of p) bound.parts → OnPattern bound (part x ∷ p) cs → Kept bound fit → Fits (part x ∷ p) cs text fit →
     ((piece rest : Bytes) → distinct (parts_of p) ≡ true → Fresh (parts_of p) (with_part bound x piece).parts →
-    OnPattern (with_part bound x piece) p cs → Kept (with_part bound x piece) fit → Fits p cs rest fit → Best p cs rest (with_part bound x piece) fit) →
+    OnPattern (with_part bound x piece) p cs → Kept (with_part bound x piece) fit → Fits p cs rest fit →
+    Best p cs rest (with_part bound x piece) fit) →
     Best (part x ∷ p) cs text bound fit
 unfolding distinct filled symbols_from parts_of
 best-piece x p cs text bound fit d fresh on k f after =

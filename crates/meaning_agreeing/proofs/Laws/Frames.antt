@@ -10,7 +10,8 @@ use Rattle.meaning.specs.Choice.{Bytes, pick}
 use Rattle.meaning.specs.Answers.{frames_full}
 use Rattle.meaning.specs.Outcome.{Tally, fresh, pay, emitted, Outcome, done, stop, and_then, result_of}
 use Rattle.meaning.specs.Instructions.{Code}
-use Rattle.meaning.specs.Machine.{Need, in_cells, out_cells, record_bytes, frames, onward, halt, Ledger, Stacks, Ran, with_tally, after_note, where_payable}
+use Rattle.meaning.specs.Machine.{Need, in_cells, out_cells, record_bytes, frames, onward, halt, Ledger, Stacks, Ran, with_tally, after_note}
+use Rattle.meaning.specs.Machine.{where_payable}
 use Rattle.meaning.specs.Machine.{ran_choice, ran_paid}
 use Rattle.meaning.specs.Runs.{Room, passes, answer_to, lent, loaded, run_under, text_of, run_lent}
 use Rattle.meaning_agreeing.proofs.Laws.Answers.{StopsSo, then-stops}
@@ -110,7 +111,8 @@ module _ (room : Room) where
   abbrev KeepsFrame : Computation (lent room) → Computation (lent room) → Type 0
   KeepsFrame k k' = (g : Counting) → Framed (k g)
 
-  framed-noted : (need : Need) (b : Bool) (k : Computation (lent room)) → (T (is_frames need) → ⊥) → ((g : Counting) → Framed (k g)) → (g : Counting) →
+  framed-noted : (need : Need) (b : Bool) (k : Computation (lent room)) → (T (is_frames need) → ⊥) → ((g : Counting) → Framed (k g)) →
+      (g : Counting) →
       Framed (after_note (lent room) (pick b (halt (answer_to need)) (onward tt)) g k)
   framed-noted need true k other framed g = need-fifteenless need other
   framed-noted need false k other framed g = framed (record { tally = g.tally; mark = tt })

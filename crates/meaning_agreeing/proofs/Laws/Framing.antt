@@ -4,9 +4,11 @@ use mathlib.Core.Bool.{Bool, true, false}
 use mathlib.Core.List.{List, [], ◌∷◌}
 use lib.Dec.{T}
 use Rattle.meaning.specs.Choice.{Bytes, either, nth}
-use Rattle.meaning.specs.Instructions.{Action, go, select, out, out_c, out_v, begin_seq, use_seq, call, tail_call, emission, unknown_action, Sentences}
+use Rattle.meaning.specs.Instructions.{Action, go, select, out, out_c, out_v, begin_seq, use_seq, call, tail_call, emission, unknown_action}
+use Rattle.meaning.specs.Instructions.{Sentences}
 use Rattle.meaning.specs.Instructions.{no_more, sentence, unknown_sentence, Code, compute}
-use Rattle.meaning.specs.Matching.{Found, found_at, found_none, found_wrong, Choice, chosen, chosen_none, chosen_wrong, choice_of, find_place, choose_from}
+use Rattle.meaning.specs.Matching.{Found, found_at, found_none, found_wrong, Choice, chosen, chosen_none, chosen_wrong, choice_of, find_place}
+use Rattle.meaning.specs.Matching.{choose_from}
 use Rattle.meaning.specs.Machine.{Need, in_cells, out_cells, record_bytes, frames, function_of, code_at}
 
 abbrev pub is_call : Action → Bool

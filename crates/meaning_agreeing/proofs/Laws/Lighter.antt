@@ -18,17 +18,23 @@ use Rattle.meaning.specs.Names.{number_of, recoverer_of}
 use Rattle.meaning.specs.Allowed.{allowed}
 use Rattle.meaning.specs.Answers.{no_instruction}
 use Rattle.meaning.specs.Outcome.{Tally, fresh, pay, emitted, emitted_line, done, stop, and_then, Result, result_of, computed}
-use Rattle.meaning.specs.Instructions.{Site, Span, Action, go, select, out, out_c, out_v, begin_seq, use_seq, call, tail_call, emission, unknown_action}
+use Rattle.meaning.specs.Instructions.{Site, Span, Action, go, select, out, out_c, out_v, begin_seq, use_seq, call, tail_call, emission}
+use Rattle.meaning.specs.Instructions.{unknown_action}
 use Rattle.meaning.specs.Instructions.{Metric, Test, Store, Sentences, no_more, sentence, Code, compute}
-use Rattle.meaning.specs.Matching.{Found, found_at, found_none, found_wrong, find_place, choice_of, Choice, chosen, chosen_none, chosen_wrong, choose_from}
+use Rattle.meaning.specs.Matching.{Found, found_at, found_none, found_wrong, find_place, choice_of, Choice, chosen, chosen_none, chosen_wrong}
+use Rattle.meaning.specs.Matching.{choose_from}
 use Rattle.meaning.specs.Matching.{stored_values}
-use Rattle.meaning.specs.Machine.{Need, in_cells, out_cells, record_bytes, frames, onward, Watch, Ledger, Stacks, Local, Ran, Next, with_tally, noting}
+use Rattle.meaning.specs.Machine.{Need, in_cells, out_cells, record_bytes, frames, onward, Watch, Ledger, Stacks, Local, Ran, Next, with_tally}
+use Rattle.meaning.specs.Machine.{noting}
 use Rattle.meaning.specs.Machine.{where_there, where_stored, where_opened, where_payable, max_opened, span_of, is_declared, moved_on, with_selected}
-use Rattle.meaning.specs.Machine.{with_output, with_opened, sequence_moved, after_field, returned, writing, perform, process, started, ran_choice, ran_paid}
+use Rattle.meaning.specs.Machine.{with_output, with_opened, sequence_moved, after_field, returned, writing, perform, process, started, ran_choice}
+use Rattle.meaning.specs.Machine.{ran_paid}
 use Rattle.meaning.specs.Machine.{enter, function_of, code_at}
 use Rattle.meaning.specs.Runs.{Room, passes, Passed, first_passed, endless, watching, loaded, run_under, text_of, mark_of, passed_first}
-use Rattle.meaning.specs.Translation.{Shape, shape_of, tested_shape, Stand, at_start, passage, rest_of, nowhere, Manner, emits, replaces, nests, Level}
-use Rattle.meaning.specs.Translation.{outermost, in_argument, in_tail, is_end, manner_of, level_in, ends_pattern, left_for, where_left, argument_ready}
+use Rattle.meaning.specs.Translation.{Shape, shape_of, tested_shape, Stand, at_start, passage, rest_of, nowhere, Manner, emits, replaces, nests}
+use Rattle.meaning.specs.Translation.{Level}
+use Rattle.meaning.specs.Translation.{outermost, in_argument, in_tail, is_end, manner_of, level_in, ends_pattern, left_for, where_left}
+use Rattle.meaning.specs.Translation.{argument_ready}
 use Rattle.meaning.specs.Translation.{calling, item_actions, translated_sentences, translated_function, translate, computes}
 use Rattle.meaning.specs.Earlier.{earlier_items, earlier_sentences, earlier_function, earlier_translation}
 use Rattle.meaning_agreeing.proofs.Laws.Known.{rewrite-known}
@@ -397,10 +403,11 @@ module _ (table : Table) (shape : Shape) (sites : List (Named Site)) where
   alike-items v (then_character c e) w a = same (out_c c) (alike-items v e w a)
   alike-items v (then_symbol x e) w a = same _ (alike-items v e w a)
   alike-items v (then_part x e) w a = alike-part v x w e (alike-items v e (passage shape x w).after a)
-  alike-items {level₀} {level} {k₀} {k} v (then_call place n b e) w a =
+  alike-items {level₀ = level₀} {level = level} {k₀ = k₀} {k = k} v (then_call place n b e) w a =
       rw (same-manner v e n)
       (same begin_seq
-      (alike-items (argument-level (manner_of level e n) (number_of table n) n (λ w₁. earlier_items table shape sites level₀ e w₁ k₀)) b w
+      (alike-items {level₀ = in_argument} {level = level_in (manner_of level e n) (number_of table n)}
+      (argument-level (manner_of level e n) (number_of table n) n (λ w₁. earlier_items table shape sites level₀ e w₁ k₀)) b w
       (λ w₁. same-call (manner_of level e n) (number_of table n) n w₁ (alike-items v e w₁ a))))
 
 alike-sentences : (table : Table) (r : ℕ) (ss : List Sentence) → AlikeSentences (earlier_sentences table r ss) (translated_sentences table r ss)

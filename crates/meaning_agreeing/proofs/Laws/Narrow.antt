@@ -8,7 +8,8 @@ use Rattle.meaning.specs.Choice.{Name, every}
 use Rattle.meaning.specs.Tree.{Table}
 use Rattle.meaning.specs.Allowed.{is_byte, allowed}
 use Rattle.meaning.specs.Instructions.{Test, look, compare, predicate, predicate_part, unknown_test, Store, store, unknown_store, Span, Action, go}
-use Rattle.meaning.specs.Instructions.{select, out, out_c, out_v, begin_seq, use_seq, call, tail_call, emission, compute, unknown_action, Metric, exactly}
+use Rattle.meaning.specs.Instructions.{select, out, out_c, out_v, begin_seq, use_seq, call, tail_call, emission, compute, unknown_action, Metric}
+use Rattle.meaning.specs.Instructions.{exactly}
 use Rattle.meaning.specs.Instructions.{ends, middle, Sentences, Code}
 use Rattle.meaning.specs.Translation.{translate}
 use Rattle.meaning.specs.Packing.{code_word, operation_number, test_word, store_word, span_word, action_words, pack_actions, max_stored, metric_word}

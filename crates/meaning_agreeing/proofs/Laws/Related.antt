@@ -12,11 +12,13 @@ use Rattle.meaning.specs.Choice.{Bytes, Name, nth}
 use Rattle.meaning.specs.Angles.{Angled, sum, not_angles, out_of_range, angled}
 use Rattle.meaning.specs.Answers.{no_sentence_fits, allowance_spent, no_instruction, argument_not_angles, angle_out_of_range}
 use Rattle.meaning.specs.Outcome.{Tally, pay, emitted, emitted_line, done, stop, and_then, computed}
-use Rattle.meaning.specs.Instructions.{Action, go, select, out, out_c, out_v, begin_seq, use_seq, call, tail_call, emission, compute, unknown_action, Code}
+use Rattle.meaning.specs.Instructions.{Action, go, select, out, out_c, out_v, begin_seq, use_seq, call, tail_call, emission, compute, unknown_action}
+use Rattle.meaning.specs.Instructions.{Code}
 use Rattle.meaning.specs.Matching.{Choice, chosen, chosen_none, chosen_wrong, choose_from, stored_values}
 use Rattle.meaning.specs.Machine.{Need, in_cells, out_cells, record_bytes, frames, Watch, Ledger, Stacks, Local, Ran, Next, with_tally, noting}
 use Rattle.meaning.specs.Machine.{where_there, where_stored, where_opened, where_payable, max_opened, span_of, is_declared, moved_on, with_selected}
-use Rattle.meaning.specs.Machine.{with_output, with_opened, sequence_moved, after_field, returned, writing, perform, process, started, ran_choice, ran_paid}
+use Rattle.meaning.specs.Machine.{with_output, with_opened, sequence_moved, after_field, returned, writing, perform, process, started, ran_choice}
+use Rattle.meaning.specs.Machine.{ran_paid}
 use Rattle.meaning.specs.Machine.{enter, code_at}
 use Rattle.meaning_agreeing.proofs.Laws.Framing.{is_frames, is_call, any_call, choice_calls, either_left, either-right}
 
@@ -80,7 +82,8 @@ module _ (W U : Watch) (Nesting : Type 0) (R : Relation W U) (closed : Closed W 
   kept_value none k k' r = wrong
   kept_value (some b) k k' r = r b
 
-  opened_at : (rs : List ℕ) (k : ℕ → List ℕ → Computation W) (k' : ℕ → List ℕ → Computation U) → ((r : ℕ) (more : List ℕ) → R (k r more) (k' r more)) →
+  opened_at : (rs : List ℕ) (k : ℕ → List ℕ → Computation W) (k' : ℕ → List ℕ → Computation U) →
+      ((r : ℕ) (more : List ℕ) → R (k r more) (k' r more)) →
       R (λ g. where_opened W rs g (λ r more. k r more g)) (λ g. where_opened U rs g (λ r more. k' r more g))
   opened_at [] k k' related = wrong
   opened_at (r ∷ more) k k' related = related r more

@@ -12,7 +12,8 @@ use Rattle.meaning.specs.Outcome.{Tally, fresh, pay, emitted, Outcome, done, sto
 use Rattle.meaning.specs.Instructions.{Code}
 use Rattle.meaning.specs.Machine.{Need, in_cells, out_cells, record_bytes, frames, onward, halt, Watch, Ledger, Stacks, Ran, with_tally, after_note}
 use Rattle.meaning.specs.Machine.{noting, where_payable, ran_choice, ran_paid, enter}
-use Rattle.meaning.specs.Runs.{Room, passes, answer_to, endless, lent, Passed, first_passed, watching, loaded, run_under, text_of, mark_of, run_endless}
+use Rattle.meaning.specs.Runs.{Room, passes, answer_to, endless, lent, Passed, first_passed, watching, loaded, run_under, text_of, mark_of}
+use Rattle.meaning.specs.Runs.{run_endless}
 use Rattle.meaning.specs.Runs.{run_lent, passed_first}
 use Rattle.meaning_agreeing.proofs.Laws.Answers.{StopsSo, then-stops}
 use Rattle.meaning_agreeing.proofs.Laws.Related.{Own, unfitting, spent, unreadable, misformed, past, Computation, Closed, Enters, choice_for}
@@ -134,7 +135,8 @@ own-closed =
     }
 
 own-paid : (o : Option Tally) (code : Code) (e : Enters endless) (frame f : ℕ) (s : Stacks) (g : Ledger (Unit {0})) →
-    ((g : Ledger (Unit {0})) → OwnStop (ran_choice endless code e frame f (choice_for code f s) s g)) → OwnStop (ran_paid endless code e frame f s g o)
+    ((g : Ledger (Unit {0})) → OwnStop (ran_choice endless code e frame f (choice_for code f s) s g)) →
+    OwnStop (ran_paid endless code e frame f s g o)
 own-paid none code e frame f s g own = spent refl
 own-paid (some t) code e frame f s g own = own (with_tally endless t g)
 

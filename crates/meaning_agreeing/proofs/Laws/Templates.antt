@@ -11,7 +11,8 @@ use Rattle.meaning.specs.Choice.{Name, Named, pick, lookup, same_bytes, every, i
 use Rattle.meaning.specs.Tree.{Letter, character, symbol, Element, letter, part}
 use Rattle.meaning.specs.Allowed.{member, added, symbols_from, symbols_of, letters_in, spelled_element, max_letters}
 use Rattle.meaning.specs.Instructions.{Site, from_start, from_place, look, compare}
-use Rattle.meaning.specs.Translation.{Shape, fixed, open₁, open₂, with_letter, cut_at, shape_of, Tested, tested_symbol, tested_letter, tested_template}
+use Rattle.meaning.specs.Translation.{Shape, fixed, open₁, open₂, with_letter, cut_at, shape_of, Tested, tested_symbol, tested_letter}
+use Rattle.meaning.specs.Translation.{tested_template}
 use Rattle.meaning.specs.Translation.{before_end, untested, tested_shape}
 use Rattle.meaning.proofs.Laws.Choosing.{names_in, member-bound}
 use Rattle.meaning.proofs.Laws.Passing.{every-head, every-tail}
@@ -111,7 +112,8 @@ shape-names (open₂ h x m y t) = simp (template-names, symbols-append)
 -- as many sites as there are different s-variables
 pub site-count : (es : List Element) → length (tested_shape (shape_of es)).sites ≡ length (symbols_of es)
 site-count es =
-    sym (length-map (tested_shape (shape_of es)).sites (λ x. x.name)) ∙ ap length (shape-names (shape_of es)) ∙ rw (shape-letters es, symbols-in [] es)
+    sym (length-map (tested_shape (shape_of es)).sites (λ x. x.name)) ∙ ap length (shape-names (shape_of es)) ∙
+    rw (shape-letters es, symbols-in [] es)
 
 pub record FitsTested (d : Tested) : Type 0 where
   pub each_test : All FitsTest d.tests

@@ -9,18 +9,23 @@ use lib.Dec.{T, leb→le, ltb→lt}
 use lib.ListN.{length, length-append, length-map}
 use Rattle.meaning.specs.Choice.{Name, Named, guard, both, every, same_bytes, lookup}
 use Rattle.meaning.specs.Angles.{Operation}
-use Rattle.meaning.specs.Tree.{Letter, Subject, of_symbol, of_part, Condition, Expression, end, then_character, then_symbol, then_part, then_call, Sentence}
+use Rattle.meaning.specs.Tree.{Letter, Subject, of_symbol, of_part, Condition, Expression, end, then_character, then_symbol, then_part, then_call}
+use Rattle.meaning.specs.Tree.{Sentence}
 use Rattle.meaning.specs.Tree.{Function, Table}
 use Rattle.meaning.specs.Classes.{Class}
 use Rattle.meaning.specs.Names.{number_from, number_of, recover_prefix, is_recovering, recoverer_of}
-use Rattle.meaning.specs.Allowed.{is_byte, member, spelled_name, spelled_element, letters_in, symbols_of, max_letters, max_symbols, max_conditions, max_items}
-use Rattle.meaning.specs.Allowed.{max_name, items_in, spelled_items, allowed_sentence, allowed_function, allowed, sentences_in, max_functions, max_sentences}
+use Rattle.meaning.specs.Allowed.{is_byte, member, spelled_name, spelled_element, letters_in, symbols_of, max_letters, max_symbols, max_conditions}
+use Rattle.meaning.specs.Allowed.{max_items}
+use Rattle.meaning.specs.Allowed.{max_name, items_in, spelled_items, allowed_sentence, allowed_function, allowed, sentences_in, max_functions}
+use Rattle.meaning.specs.Allowed.{max_sentences}
 use Rattle.meaning.specs.Instructions.{Site, Test, Store, store, Span, Action, go, select, out, out_c, out_v, begin_seq, use_seq, call, tail_call}
 use Rattle.meaning.specs.Instructions.{emission, Metric, Code, compute}
 use Rattle.meaning.specs.Translation.{Shape, fixed, open₁, open₂, shape_of, metric_of, Tested, tested_shape, site_or, Bounds, bounds_of, subject_test}
-use Rattle.meaning.specs.Translation.{condition_test, tests_of, stores_of, value_from, value_number, Stand, at_start, after_first, after_second, nowhere}
+use Rattle.meaning.specs.Translation.{condition_test, tests_of, stores_of, value_from, value_number, Stand, at_start, after_first, after_second}
+use Rattle.meaning.specs.Translation.{nowhere}
 use Rattle.meaning.specs.Translation.{Passage, passage_first, gap_to_second, passage_second, passage, rest_of, Manner, emits, replaces, nests, Level}
-use Rattle.meaning.specs.Translation.{outermost, in_argument, in_tail, is_end, manner_of, level_in, ends_pattern, left_for, where_left, argument_ready}
+use Rattle.meaning.specs.Translation.{outermost, in_argument, in_tail, is_end, manner_of, level_in, ends_pattern, left_for, where_left}
+use Rattle.meaning.specs.Translation.{argument_ready}
 use Rattle.meaning.specs.Translation.{calling, item_actions, passes_rest, actions_of, translated_sentences, translated_function, translate, computes}
 use Rattle.meaning.specs.Packing.{Words, pack, unpack}
 use Rattle.meaning.proofs.Laws.Choosing.{of_either}
@@ -273,7 +278,8 @@ module _ (table : Table) (shape : Shape) (sites : List (Named Site)) where
       (item_actions table shape sites level e w₁ rest) in
       omega (
         arith,
-        items-length symbols (27 + (max_item_words * items_in e + bound)) (level_in (manner_of level e n) (number_of table n)) a w after spelt.argument
+        items-length symbols (27 + (max_item_words * items_in e + bound)) (level_in (manner_of level e n) (number_of table n)) a w after
+            spelt.argument
             (λ w₁. omega (
               arith,
               calling-length (manner_of level e n) (number_of table n) n w₁ (item_actions table shape sites level e w₁ rest)
