@@ -11,7 +11,7 @@ pub const BUFFER_TOO_SHORT: u64 = 17;
 pub const NOT_TAIL_CALL: u64 = 19;
 
 // What a table text is answered with.
-#[derive(Drop)]
+#[derive(Clone, Copy)]
 pub enum Answer {
     Accepted,
     TableTooLong,

@@ -31,7 +31,7 @@ use tape_words::tape::{Item, item_at, word_at};
 
 // Where the writing of an expression stands: the tape's next word, the code's, the items so far, the open calls, and
 // where p stands.
-#[derive(Drop)]
+#[derive(Clone, Copy)]
 pub struct Walk {
     pub next: usize,
     pub at: usize,
@@ -43,7 +43,7 @@ pub struct Walk {
 
 // How a call is done: as an emission, as an angle call, by whether it subtracts, as a tail call, or in a frame of its
 // own.
-#[derive(Drop)]
+#[derive(Clone, Copy)]
 pub enum Manner {
     Emits,
     Computes(bool),

@@ -1,2 +1,3 @@
--- What the program prints.
+-- What the program prints, and what a write that fails leaves.
 pub mod Printed
+pub mod Written

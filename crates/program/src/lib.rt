@@ -1,17 +1,18 @@
 // The program: a table and a text in, what the run of the table's code answers out.
 #![tactic(auto)]
 
-ghost use Rattle.std.specs.Prelude.{◌≡◌, ◌+◌, IfOk, IfSome, OnOk, length, take};
+ghost use Rattle.std.specs.Prelude.{◌≡◌, ◌+◌, IfOk, IfSome, OnErr, OnOk, length, take};
 ghost use Rattle.std.specs.Io.KnownBytes.{Appends};
 ghost use Rattle.program_printing.specs.Texts.{Prints};
 ghost use Rattle.program.specs.Printed.{code_words, cells_each, lent_bytes, printed, Shows};
+ghost use Rattle.program.specs.Written.{AppendsFront};
 
 use answers::is_refusal;
 use engine::{COUNTED, Report};
 use program_printing::{put_refusal, put_result};
 use program_profile::put_profile;
 use std::alloc::Global;
-use std::io::{Read, Write};
+use std::io::{ErrorKind, Read, Write};
 use std::rt::Files;
 use std::{fs, io};
 
@@ -117,21 +118,58 @@ fn read_input<R: Read + Drop>(alloc: Global, reader: R) -> io::Result<Vec<u8>>
     Ok(input)
 }
 
-// Reads a table and a text to their ends, and writes what the run answers.
+// Writes the bytes one after another. After an error the first of them may have been written.
+fn write_bytes<W: Write>(output: &mut W, bytes: &[u8]) -> io::Result<()>
+    ensures ok { OnOk result (Appends (W.contents output.old) (W.contents output.new) bytes.now) }
+    ensures err { OnErr result
+        (AppendsFront (W.contents output.old) (W.contents output.new) bytes.now) }
+{
+    let mut done = 0;
+    for _ in 0..u64::MAX {
+        if done >= bytes.len() {
+            return Ok(());
+        }
+        match output.write(&bytes[done..]) {
+            Ok(0) => return Err(io::Error::from(ErrorKind::WriteZero)),
+            Ok(count) => done += count,
+            Err(e) => {
+                if e.kind() != ErrorKind::Interrupted {
+                    return Err(e);
+                }
+            }
+        }
+    }
+    Err(io::Error::from(ErrorKind::Interrupted))
+}
+
+// Writes what is printed for a table text and a text.
+fn write_printed<W: Write>(table: &[u8], text: &[u8], output: &mut W) -> io::Result<()>
+    ensures ok { OnOk result
+        (Appends (W.contents output.old) (W.contents output.new) (printed table.now text.now)) }
+    ensures err { OnErr result
+        (AppendsFront (W.contents output.old) (W.contents output.new)
+        (printed table.now text.now)) }
+{
+    let mut out = output_room();
+    let count = respond(table, text, &mut out);
+    write_bytes(output, &out[..count])
+}
+
+// Reads a table and a text to their ends, and writes what is printed for them.
 pub fn write_answer<T: Read + Drop, I: Read + Drop, W: Write>(
     alloc: Global,
     table: T,
     text: I,
     output: &mut W,
 ) -> io::Result<()>
-    ensures { OnOk result (IfSome (T.remaining table) (λ t. IfSome (I.remaining text)
+    ensures ok { OnOk result (IfSome (T.remaining table) (λ t. IfSome (I.remaining text)
         (λ x. Appends (W.contents output.old) (W.contents output.new) (printed t x)))) }
+    ensures err { OnErr result (IfSome (T.remaining table) (λ t. IfSome (I.remaining text)
+        (λ x. AppendsFront (W.contents output.old) (W.contents output.new) (printed t x)))) }
 {
     let table = read_input(alloc, table)?;
     let text = read_input(alloc, text)?;
-    let mut out = output_room();
-    let count = respond(&table, &text, &mut out);
-    output.write_all(&out[..count])
+    write_printed(&table, &text, output)
 }
 
 // `table.rf` of the current folder on standard input. A table that can't be opened counts as empty.

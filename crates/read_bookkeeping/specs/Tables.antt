@@ -1,6 +1,6 @@
 -- Names and identifiers in the text, and tables of identifiers. An entry of a table is `entry_width` times the place of
 -- an identifier, plus its length.
-use Rattle.std.specs.Prelude.{ℕ, suc, ◌+◌, ◌-◌, ◌/◌, ◌%◌, ◌≤◌, Bool, List, [], ◌∷◌, T, leb, length}
+use Rattle.std.specs.Prelude.{ℕ, suc, ◌+◌, ◌/◌, ◌%◌, ◌≤◌, Bool, List, [], ◌∷◌, T, leb, length}
 use Rattle.std.proofs.Math.Seq.{slice}
 use Rattle.meaning.specs.Choice.{Bytes, Name, pick, every, same_bytes}
 use Rattle.meaning.specs.Allowed.{max_symbols}

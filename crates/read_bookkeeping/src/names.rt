@@ -26,7 +26,7 @@ pub const MAX_PARTS: usize = 2;
 pub const VARIABLE_ROOM: usize = MAX_SYMBOLS + MAX_PARTS;
 
 // The byte classes that conditions ask for.
-#[derive(Drop)]
+#[derive(Clone, Copy)]
 pub enum Class {
     Digit,
     Upper,
@@ -36,7 +36,7 @@ pub enum Class {
 }
 
 // A name as a predicate's.
-#[derive(Drop)]
+#[derive(Clone, Copy)]
 pub enum Predicate {
     Asks(Class),
     NoPredicate,

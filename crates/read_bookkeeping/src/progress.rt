@@ -8,21 +8,21 @@ ghost use Rattle.read_bookkeeping.specs.Tokened.{token_fault, sign_is, word_is, 
 use answers::Answer;
 use read_tokens::{Mode, Placed, Token, lex};
 
-#[derive(Drop)]
+#[derive(Clone, Copy)]
 pub struct Fault {
     pub answer: Answer,
     pub place: usize,
 }
 
 // The place in the text, and the words on the tape. A reader that counts something has a struct of its own.
-#[derive(Drop)]
+#[derive(Clone, Copy)]
 pub struct Progress {
     pub at: usize,
     pub words: usize,
 }
 
 // What a reader that counts nothing comes to.
-#[derive(Drop)]
+#[derive(Clone, Copy)]
 pub enum Parsed {
     Stopped(Fault),
     Done(Progress),
@@ -79,7 +79,7 @@ pub fn is_word(t: Placed) -> bool
 }
 
 // The place after a byte that stands for itself.
-#[derive(Drop)]
+#[derive(Clone, Copy)]
 pub enum Passed {
     Past(usize),
     Refused(Fault),

@@ -5,7 +5,7 @@ use run_code_places::CodePlace;
 
 // 000's p, q and r; the current frame, as the number of frames that wait below it; the next code word; the steps made
 // and the length of the emissions; and the function whose application is to begin, 0 while the actions of one are done.
-#[derive(Drop)]
+#[derive(Clone, Copy)]
 pub struct Registers {
     pub p: InCell,
     pub q: InCell,
@@ -18,7 +18,7 @@ pub struct Registers {
 }
 
 // A run goes on, is done, stops with an answer and a function number, or goes on where there is room for a frame more.
-#[derive(Drop)]
+#[derive(Clone, Copy)]
 pub enum Next {
     Onward(Registers),
     Done(Registers),
@@ -27,7 +27,7 @@ pub enum Next {
 }
 
 // The same, without the registers, which are then lent.
-#[derive(Drop)]
+#[derive(Clone, Copy)]
 pub enum Status {
     Onward,
     Done,
@@ -37,7 +37,7 @@ pub enum Status {
 
 // What a run answers: the ending, the function that fits nothing, the steps, and the lengths of the text on out and of
 // the emissions.
-#[derive(Drop)]
+#[derive(Clone, Copy)]
 pub struct Ran {
     pub ending: Ending,
     pub function: usize,

@@ -24,7 +24,8 @@ use Rattle.code_expressions.specs.declared.expression.Walk.{Walk}
 use Rattle.code_expressions.specs.declared.expression.Manner.{Manner}
 use Rattle.code_expressions.specs.declared.expression.Manner.TheVariants.{Emits, Computes, Replaces, Nests}
 use Rattle.code_expressions.specs.Levels.{Levels, levels_ended, first_of, others_of, item_by, levels_in}
-use Rattle.code_expressions.specs.Resuming.{level_at, open_names, levels_now, rest_now, call_done, is_stop, last_call, manner_by, manner_now, continues}
+use Rattle.code_expressions.specs.Resuming.{level_at, open_names, levels_now, rest_now, call_done, is_stop, last_call, manner_by, manner_now}
+use Rattle.code_expressions.specs.Resuming.{continues}
 use Rattle.code_expressions.specs.Resuming.{ending_by}
 use Rattle.code_expressions.proofs.Laws.Items.{stops, Told, told, levels-at, levels-stop, stops-below, last-item}
 use Rattle.code_expressions.proofs.Laws.Resumed.{open-less, open-last, outermost-moves, nested-moves}

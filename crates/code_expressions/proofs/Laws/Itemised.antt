@@ -12,7 +12,8 @@ use Rattle.meaning.specs.Choice.{Name, pick, both, guard, Named, same_bytes}
 use Rattle.meaning.specs.Tree.{Expression, then_character, then_symbol, then_part, Table}
 use Rattle.meaning.specs.Names.{number_of}
 use Rattle.meaning.specs.Instructions.{Site, Action, go, select, out}
-use Rattle.meaning.specs.Translation.{Shape, Manner as MeantManner, Passage, passage, rest_of, value_number, ends_pattern, left_for, where_left, calling}
+use Rattle.meaning.specs.Translation.{Shape, Manner as MeantManner, Passage, passage, rest_of, value_number, ends_pattern, left_for, where_left}
+use Rattle.meaning.specs.Translation.{calling}
 use Rattle.meaning.specs.Translation.{actions_of}
 use Rattle.meaning.specs.Packing.{Words, code_word, span_word, pack_actions}
 use Rattle.tape_words.specs.declared.tape.Item.{Item}
@@ -30,7 +31,8 @@ use Rattle.tape_words.specs.Finding.{number_among}
 use Rattle.code_patterns.specs.Measuring.{flag, first_part_or}
 use Rattle.code_actions.specs.ActionWords.{span_words, part_words, rest_word, left_words}
 use Rattle.code_actions.specs.Spanning.{meant_stand, gap_by, piece_span, stand_after, ends_by}
-use Rattle.code_expressions.specs.Resuming.{level_at, resume, open_names, levels_now, remaining, rest_now, item_done, word_done, call_done, call_words}
+use Rattle.code_expressions.specs.Resuming.{level_at, resume, open_names, levels_now, remaining, rest_now, item_done, word_done, call_done}
+use Rattle.code_expressions.specs.Resuming.{call_words}
 use Rattle.code_expressions.specs.Resuming.{manner_now, continues, ending_words, past_ending, past_name, is_first, stays, all_done, Means, InItems}
 use Rattle.code_expressions.specs.Resuming.{Innermost, call_end_words, item_words, last_words, ItemsOn, ItemsAll}
 use Rattle.tape_words.proofs.Laws.Names.{name-here, name-fits-here, name-short}

@@ -129,7 +129,8 @@ module _ (ws : List ℕ) (i depth items : ℕ) where
 -- READING
 
 pub levels-at : (ws : List ℕ) (i depth items : ℕ) (it : Item) → i < length ws → item_at (drop i ws) depth items ≡ it
-    → levels_in depth items 0 (drop i ws) ≡ item_by it depth items (get_or ws i 0) (drop (i + 1) ws) (λ d n skip. levels_in d n skip (drop (i + 1) ws))
+    → levels_in depth items 0 (drop i ws) ≡ item_by it depth items (get_or ws i 0) (drop (i + 1) ws)
+    (λ d n skip. levels_in d n skip (drop (i + 1) ws))
 unfolding levels_in
 levels-at ws i depth items it h e =
     let f : item_of_word (get_or ws i 0) depth items ≡ it = rw (at_place ws i h) at e in
@@ -164,7 +165,8 @@ levels-stop ws i depth items e =
     at-word h Stop f s = levels-at ws i depth items Stop h f ∙ rw (at_place ws i h)
 
 -- where an open call ends for want of words, nothing is read outside it either
-pub stops-below : (ws : List ℕ) (i depth items : ℕ) → item_at (drop i ws) depth items ≡ Unclosed → stops (item_at (drop i ws) (depth - 1) items) ≡ true
+pub stops-below : (ws : List ℕ) (i depth items : ℕ) → item_at (drop i ws) depth items ≡ Unclosed
+    → stops (item_at (drop i ws) (depth - 1) items) ≡ true
 stops-below ws i depth items e =
     by_place ws i
     (λ h.

@@ -3,7 +3,7 @@ use Prim.Native.Nat.{ℕ, zero, suc, ◌+◌, ◌-◌, ◌≤◌, ◌<◌}
 use native.Mathlib.Numerals.{add-one}
 use native.Mathlib.Omega.{arith}
 use mathlib.Core.Path.{◌≡◌, refl, ap, ap₂}
-use mathlib.Core.Bool.{Bool, true, false}
+use mathlib.Core.Bool.{false}
 use mathlib.Core.List.{List, [], ◌∷◌}
 use mathlib.Core.Option.{none}
 use lib.Dec.{eqb, eqb-suc-zero}
@@ -92,7 +92,8 @@ unfolding open_names level_at
 open-last t ws calls zero outer e = refl
 open-last t ws calls (suc depth) outer e =
     let n = head_name ws (get_or calls depth 0) in
-    rw (eqb-suc-zero depth) (argument-last (manner_of (level_at t (open_names ws calls depth) (others_of outer)) (first_of outer) n) (number_of t n) e)
+    rw (eqb-suc-zero depth) (argument-last (manner_of (level_at t (open_names ws calls depth) (others_of outer)) (first_of outer) n)
+    (number_of t n) e)
 
 -- outside all calls an e-variable doesn't stay on in
 pub outermost-moves : (t : Table) (s : Shape) (ws calls : List ℕ) (depth : ℕ) (outer : List Expression) (x : Name) (e : Expression) → depth ≡ 0

@@ -1,5 +1,5 @@
 -- A string that stands in a text, read from its end.
-use Prim.Native.Nat.{ℕ, zero, suc, ◌+◌, ◌-◌, ◌≤◌, ◌<◌}
+use Prim.Native.Nat.{ℕ, zero, suc, ◌+◌, ◌≤◌, ◌<◌}
 use native.Mathlib.Nat.{not-suc-le-zero, le_of_suc-le-suc}
 use native.Mathlib.Omega.{arith}
 use mathlib.Core.Path.{◌≡◌, refl}
@@ -24,7 +24,8 @@ starts_more [] x (y ∷ ys) h = refl
 starts_more (u ∷ xs) x (y ∷ ys) h =
     rw (starts_more xs x ys (le_of_suc-le-suc h)) (both-swap (eqb u y) (eqb x (get_or ys (length xs) 0)) (starts_with xs ys))
 
--- the first n bytes of the string stand at a place of the text where, read backwards, they stand before the place n further
+-- the first n bytes of the string stand at a place of the text where, read backwards, they stand before the place n
+-- further
 stands-back : (string text : Bytes) (q n : ℕ) → n ≤ length string → q + n ≤ length text →
     starts_with (backwards string n) (backwards text (q + n)) ≡ starts_with (take n string) (drop q text)
 unfolding starts_with backwards

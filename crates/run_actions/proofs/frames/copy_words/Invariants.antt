@@ -1,0 +1,13 @@
+-- The loop invariant and measure of `frames::copy_words`. The loop's invariant: the words so far are copied, and those past
+-- the last are as they were.
+use Prim.Native.Nat.{◌-◌, ◌≤◌}
+use mathlib.Core.Path.{◌≡◌}
+use lib.ListN.{length, take, drop}
+use Rattle.run_actions.proofs.frames.copy_words.Given as goal
+
+abbrev pub invariant-loop-i : goal.invariant-loop-i
+invariant-loop-i l = (l.i ≤ l.count) × (length l.to ≡ length l.initial.to) × (take l.i l.to ≡ take l.i l.from) ×
+    (drop l.count l.to ≡ drop l.count l.initial.to)
+
+abbrev pub decreases-loop-i : goal.decreases-loop-i
+decreases-loop-i l = l.count - l.i

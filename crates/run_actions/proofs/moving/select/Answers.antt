@@ -1,0 +1,18 @@
+-- The facts about `moving::select` that the check is told.
+use mathlib.Core.Path.{sym, ◌∙◌}
+use Rattle.run_actions.proofs.Laws.Acting.{selects}
+use Rattle.run_actions.proofs.moving.select.Goals as goal
+
+pub returns-in_default : goal.returns-in_default
+returns-in_default c = record {
+  implements =
+      λ output «record» values. selects _ _ c.requires.selection_within.ordered c.requires.selection_within.inside c.args.span _
+      (sym c.in_default.is ∙ c.reach.ensures.reaches values);
+}
+
+pub returns : goal.returns
+returns c = record {
+  implements =
+      λ output «record» values. selects _ _ c.requires.selection_within.ordered c.requires.selection_within.inside c.args.span _
+      (c.in-At.ensures.reaches values);
+}
