@@ -1,4 +1,4 @@
--- The loop invariants and measures of `words::list_words`. `list_table::words::list_words` meets its contract: to write the rest of the words from here is to write the whole from the start.
+-- The loop invariants and measures of `words::list_words`. To write the rest of the words from here is to write the whole from the start.
 use Prim.Native.Nat.{◌-◌}
 use lib.ListN.{take}
 use Rattle.list_table.proofs.Stepping.{Lists}
