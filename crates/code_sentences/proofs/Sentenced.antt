@@ -218,7 +218,8 @@ module _ (t : Table) (recoverer : ℕ) (ws : List ℕ) where
 
   -- the same by whether another follows
   abbrev words_by : ℕ → ℕ → Bool → Words
-  words_by i left more = pick more (pack_sentences (translated_sentences t recoverer (sentences_on_tape left (drop (i + 1) ws)))) (end_word recoverer ∷ [])
+  words_by i left more = pick more (pack_sentences (translated_sentences t recoverer (sentences_on_tape left (drop (i + 1) ws))))
+      (end_word recoverer ∷ [])
 
   after-sentence : (i left : ℕ) (full more : Bool) → (full ≡ true → left ≡ 0) → follows_at full (drop i ws) ≡ more → words_after i left ≡
       words_by i left more

@@ -35,5 +35,6 @@ take_within zero l = rw zero-min
 take_within (suc n) [] = rw min-zero
 take_within (suc n) (x ∷ l) = rw suc-min-suc (ap (λ (xs : List ℕ). x ∷ xs) (take_within n l))
 
-pub take_counted : (tape : List ℕ) (words : ℕ) {count : ℕ} → length tape ≡ most_words → count ≡ min words most_words → take count tape ≡ take words tape
+pub take_counted : (tape : List ℕ) (words : ℕ) {count : ℕ} → length tape ≡ most_words → count ≡ min words most_words
+    → take count tape ≡ take words tape
 take_counted tape words long e = rw (e, ← long) (take_within words tape)

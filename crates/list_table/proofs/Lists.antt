@@ -14,12 +14,14 @@ use Rattle.meaning.specs.Tree.{character, symbol, Element, letter, part, Subject
 use Rattle.meaning.specs.Tree.{then_symbol, then_part, then_call, Sentence, Function, Table}
 use Rattle.meaning.specs.Allowed.{max_identifier, is_byte, spelled_name, spelled_identifier, spelled_element, allowed_sentence, some_sentence}
 use Rattle.meaning.specs.Allowed.{allowed_function, allowed}
-use Rattle.tape_layout.specs.Tape.{tape_word, symbol_kind, part_kind, condition_kind, equals_kind, close_kind, next_kind, end_kind, function_kind, call_kind}
+use Rattle.tape_layout.specs.Tape.{tape_word, symbol_kind, part_kind, condition_kind, equals_kind, close_kind, next_kind, end_kind, function_kind}
+use Rattle.tape_layout.specs.Tape.{call_kind}
 use Rattle.tape_layout.specs.Tape.{named, pattern_tape, truth_number, subject_tape, condition_tape, conditions_tape, expression_tape, sentence_tape}
 use Rattle.tape_layout.specs.Tape.{sentences_tape, function_tape, tape}
 use Rattle.meaning.specs.Grammar.{truth_byte}
 use Rattle.meaning.specs.Listing.{Quoted, unquoted, in_string, after_code, close_quote, is_coded, after_character, quoted_character, pattern_text}
-use Rattle.meaning.specs.Listing.{subject_text, condition_text, conditions_text, expression_text, without_blank, sentence_text, sentences_text, function_text}
+use Rattle.meaning.specs.Listing.{subject_text, condition_text, conditions_text, expression_text, without_blank, sentence_text, sentences_text}
+use Rattle.meaning.specs.Listing.{function_text}
 use Rattle.meaning.specs.Listing.{listing}
 use Rattle.meaning.proofs.Laws.Passing.{both_left, both_right, every-head, every-tail}
 use Rattle.meaning.proofs.Laws.Spelling.{identifier-short}
@@ -79,7 +81,8 @@ ended-follows w bytes t is ws =
     (by-quoted (λ q. (ending (standing q) ++ bytes) ++ list_from t ws ≡ close_quote q ++ (bytes ++ list_from t ws)) refl refl refl)
 
 -- a byte after the blank between items
-parted-follows : (w b : ℕ) (t : State) → ((s : State) → item_step s w ≡ parted_step s b t) → (ws : List ℕ) → Follows (w ∷ ws) (32 ∷ b ∷ list_from t ws)
+parted-follows : (w b : ℕ) (t : State) → ((s : State) → item_step s w ≡ parted_step s b t) → (ws : List ℕ)
+    → Follows (w ∷ ws) (32 ∷ b ∷ list_from t ws)
 parted-follows w b t is ws =
     word-follows w ws (λ s. separator s ++ b ∷ []) t _ is
     (by-quoted (λ q. (separator (standing q) ++ b ∷ []) ++ list_from t ws ≡ close_quote q ++ (32 ∷ b ∷ list_from t ws)) refl refl refl)
@@ -126,7 +129,8 @@ named-item : {kind b : ℕ} → Begins kind b → {x : Name} → Short x → (s 
     parted_step s b (NameLeft (length x))
 named-item {kind} k {x} d s = kind-item s kind (length x) k.some (omega (arith, d.short)) ∙ k.is s (length x)
 
-named-follows : {kind b : ℕ} → Begins kind b → {x : Name} → Short x → (ws : List ℕ) → Follows (named kind x ++ ws) (32 ∷ b ∷ (x ++ list_from Plain ws))
+named-follows : {kind b : ℕ} → Begins kind b → {x : Name} → Short x → (ws : List ℕ)
+    → Follows (named kind x ++ ws) (32 ∷ b ∷ (x ++ list_from Plain ws))
 named-follows {kind} {b} k {x} d ws =
     rw (← (copied NameLeft [] Plain (λ n w. refl) x d.filled d.bytes ws))
     (parted-follows (tape_word kind (length x)) b (NameLeft (length x)) (named-item k d) (x ++ ws))
@@ -196,14 +200,16 @@ expression-listed : (e : Expression) → T (legible e) → {rest : List ℕ} {af
 unfolding expression_tape expression_text legible
 expression-listed end t f q = f.at q
 expression-listed (then_character c e) t {rest} {after} f q =
-    character-then (expression_tape e) rest (expression_text (after_character q c) e) after c _ t q (λ u. expression-listed e u f (after_character q c))
+    character-then (expression_tape e) rest (expression_text (after_character q c) e) after c _ t q
+    (λ u. expression-listed e u f (after_character q c))
 expression-listed (then_symbol x e) t {rest} {after} f q =
     variable-then (expression_tape e) rest (expression_text unquoted e) after symbol-begins x _ t (λ u. expression-listed e u f unquoted) q
 expression-listed (then_part x e) t {rest} {after} f q =
     variable-then (expression_tape e) rest (expression_text unquoted e) after part-begins x _ t (λ u. expression-listed e u f unquoted) q
 expression-listed (then_call place n a e) t {rest} {after} f q =
     let inner = both_right (spelled_name n) (both (legible a) (legible e)) t in
-    item-then (expression_tape a ++ tape_word close_kind 0 ∷ expression_tape e) rest (expression_text unquoted a ++ 62 ∷ expression_text unquoted e) after
+    item-then (expression_tape a ++ tape_word close_kind 0 ∷ expression_tape e) rest
+    (expression_text unquoted a ++ 62 ∷ expression_text unquoted e) after
     (named (call_kind + place) n) (32 ∷ 60 ∷ n) (named-follows (call-begins place)
     (short-name n (both_left (spelled_name n) (both (legible a) (legible e)) t)))
     (rw (append_assoc (expression_tape a) (tape_word close_kind 0 ∷ expression_tape e) rest)
@@ -280,7 +286,8 @@ condition-word c t s =
 regrouped : (k v x tail l : Bytes) → (k ++ v) ++ (x ++ (tail ++ l)) ≡ (k ++ ((v ++ x) ++ tail)) ++ l
 regrouped k v x tail l = simp append_assoc
 
-condition-follows : (c : Condition) → T (spelled_variable c) → (ws : List ℕ) → Follows (condition_tape c ++ ws) (condition_text c ++ list_from Plain ws)
+condition-follows : (c : Condition) → T (spelled_variable c) → (ws : List ℕ)
+    → Follows (condition_tape c ++ ws) (condition_text c ++ list_from Plain ws)
 condition-follows c t ws =
     let x = identifier_of c.subject in
     let d = short-identifier x t in

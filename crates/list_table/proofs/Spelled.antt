@@ -8,7 +8,8 @@ use lib.Dec.{T}
 use lib.ListN.{length}
 use Rattle.meaning.specs.Choice.{Name, every}
 use Rattle.meaning.specs.Tree.{Subject, of_symbol, of_part, Condition, Sentence}
-use Rattle.meaning.specs.Allowed.{max_name, is_byte, spelled_name, spelled_identifier, spelled_element, of_pattern, symbols_of, parts_of, allowed_expression}
+use Rattle.meaning.specs.Allowed.{max_name, is_byte, spelled_name, spelled_identifier, spelled_element, of_pattern, symbols_of, parts_of}
+use Rattle.meaning.specs.Allowed.{allowed_expression}
 use Rattle.meaning.specs.Allowed.{allowed_sentence}
 use Rattle.meaning.proofs.Laws.Passing.{both_left, both_right, every-weaken, passed}
 use Rattle.meaning.proofs.Laws.Spelling.{name-bytes, name-short, identifier-bytes, identifier-short}

@@ -2,17 +2,14 @@
 use Prim.Native.Nat.{ℕ, ◌<◌}
 use mathlib.Core.Path.{◌≡◌, refl, sym, ◌∙◌}
 use mathlib.Core.Bool.{Bool, true, false, false≢true}
-use mathlib.Core.List.{List, [], ◌∷◌}
+use mathlib.Core.List.{List, ◌∷◌}
 use mathlib.Core.Option.{none}
 use native.Mathlib.Omega.{arith}
 use borrow.Author.Tests.{eqb-true, eq-eqb}
-use types.Run.{OneOf, miss}
-use denote.Enum.Declared.{tag_of}
 use Rattle.meaning.specs.Choice.{Bytes}
 use Rattle.meaning.specs.Tokens as Tokens
 use Rattle.meaning.specs.Grammar.{standing}
 use Rattle.meaning.specs.Reading as Reading
-use Rattle.read_tokens.specs.contracts.Token as token
 use Rattle.read_tokens.specs.View as View
 use Rattle.read_tokens.specs.View.{token_of, placed_of, stream, Comes}
 use Rattle.read_tokens.specs.declared.Span.{Span}
@@ -34,11 +31,8 @@ use Rattle.read_bookkeeping.proofs.Going.{stops-by, went_on}
 abbrev pub FaultOf : Placed → Fault → Type 0
 FaultOf t fault = (answer_number fault.answer ≡ token_fault t.token) × (fault.place ≡ t.place)
 
-abbrev all_but_name : List ℕ
-all_but_name = 1 ∷ 2 ∷ 3 ∷ 4 ∷ 5 ∷ 6 ∷ 7 ∷ []
-
 abbrev pub NoName : Token → Type 0
-NoName t = OneOf all_but_name (tag_of token.the_type t)
+NoName t = (name : Span) → t ≡ Name name → ⊥
 
 module _ (text : Bytes) (place past : ℕ) where
   pub fault-same : (t : Token) → token_fault t ≡ Reading.fault_of (token_of text t place past)
@@ -146,7 +140,7 @@ module _ {text : Bytes} {mode : Tokens.Mode} {at : ℕ} {t : Placed} (c : Comes 
   -- any other token
   no_name : (k : Token) (place past : ℕ) → NoName k → Reading.name_of (token_of text k place past) ≡ none
   no_name k place past =
-      by_kind (λ t'. NoName t' → Reading.name_of (token_of text t' place past) ≡ none) (λ n o. absurd (miss all_but_name 0 tt o))
+      by_kind (λ t'. NoName t' → Reading.name_of (token_of text t' place past) ≡ none) (λ n o. absurd (o n refl))
       (λ x o. refl) (λ x o. refl) (λ o. refl) (λ n o. refl) (λ b o. refl) (λ o. refl) (λ o. refl) k
 
   pub names-not : {A : Type 0} (fault : Bytes → ℕ) (next : ℕ → Bytes → List Tokens.Placed → Reading.Parsed A)

@@ -31,7 +31,7 @@ use tape_words::wide::{CONDITION_PART, CONDITION_SIZE, CONDITION_TRUTH, CONDITIO
 const TRUTH_SIZE: usize = 3;
 
 // A token as a variable: whether it is an e-variable, and its identifier.
-#[derive(Drop)]
+#[derive(Clone, Copy)]
 pub enum Named {
     Variable(bool, Span),
     Other,
@@ -95,7 +95,7 @@ fn truth_number(truth: bool) -> usize
 }
 
 // A condition's closing string: the truth value that it says, if it says one.
-#[derive(Drop)]
+#[derive(Clone, Copy)]
 pub enum Closing {
     Says(bool),
     NoTruth,

@@ -23,7 +23,7 @@ use tape_words::wide::{PART_WORD, SYMBOL_WORD};
 
 // A pattern so far: the place in the text and the words on the tape, its letters, its different s-variables, its
 // e-variables, and whether it ends in one.
-#[derive(Drop)]
+#[derive(Clone, Copy)]
 pub struct Counts {
     pub at: usize,
     pub words: usize,
@@ -34,7 +34,7 @@ pub struct Counts {
 }
 
 // What the pattern's reader comes to.
-#[derive(Drop)]
+#[derive(Clone, Copy)]
 pub enum ParsedPattern {
     Stopped(Fault),
     Done(Counts),
@@ -42,7 +42,7 @@ pub enum ParsedPattern {
 
 // A pattern with a token added, what is wrong with the token, that it is a word but no variable, or that it belongs to
 // no pattern.
-#[derive(Drop)]
+#[derive(Clone, Copy)]
 pub enum Added {
     Taken(Counts),
     Wrong(Answer),

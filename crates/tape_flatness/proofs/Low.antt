@@ -73,7 +73,8 @@ module _ {bound : ℕ} {ws : List ℕ} {from past : ℕ} (b : Below bound ws fro
   low-passed e s = passed-along s (λ k h l. stays-low ws k h refl (omega (arith, e, l)) s)
 
   -- outside all calls, below those that open one
-  pub outer-passed : bound ≡ 2304 → (found : ℕ) → scanned_calls 0 (drop from ws) (out_of_calls found) ≡ scanned_calls 0 (drop past ws) (out_of_calls found)
+  pub outer-passed : bound ≡ 2304 → (found : ℕ) → scanned_calls 0 (drop from ws) (out_of_calls found) ≡ scanned_calls 0 (drop past ws)
+      (out_of_calls found)
   outer-passed e found =
       passed-along (out_of_calls found)
       (λ k h l. outer-stays ws k h refl {opens = opens_call (get_or ws k 0)} refl (lt-leb 2304 (get_or ws k 0) (omega (arith, e, l))) found)

@@ -9,7 +9,8 @@ use lib.ListN.{length}
 use Rattle.meaning.specs.Choice.{Name, every}
 use Rattle.meaning.specs.Classes.{class_number}
 use Rattle.meaning.specs.Tree.{character, symbol, Element, letter, part, Subject, of_symbol, of_part, Condition, Sentence}
-use Rattle.meaning.specs.Allowed.{is_byte, max_identifier, spelled_name, spelled_identifier, spelled_element, symbols_of, parts_of, member, of_pattern}
+use Rattle.meaning.specs.Allowed.{is_byte, max_identifier, spelled_name, spelled_identifier, spelled_element, symbols_of, parts_of, member}
+use Rattle.meaning.specs.Allowed.{of_pattern}
 use Rattle.meaning.specs.Allowed.{all_of_pattern, allowed_pattern, allowed_conditions, allowed_expression, allowed_sentence}
 use Rattle.tape_layout.specs.Tape.{tape_word, symbol_kind, part_kind, truth_number, subject_tape, pattern_tape, conditions_tape}
 use Rattle.meaning.proofs.Laws.Choosing.{passed-true, true-passed}

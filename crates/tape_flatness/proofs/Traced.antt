@@ -72,7 +72,8 @@ closes outside followed call o = refl
 closes (within d p) followed call o = refl
 
 close-then : (st : Standing) (call : ℕ) (rest : List ℕ) (o : ℕ)
-    → scanned_calls 0 (tape_word close_kind 0 ∷ rest) (at (deeper st call) o) ≡ scanned_calls 0 rest (at st (when_closed st (item_follows rest) call o))
+    → scanned_calls 0 (tape_word close_kind 0 ∷ rest) (at (deeper st call) o) ≡ scanned_calls 0 rest
+    (at st (when_closed st (item_follows rest) call o))
 unfolding scanned_calls
 close-then st call rest o = ap (scanned_calls 0 rest) (closes st (item_follows rest) call o)
 
@@ -81,14 +82,16 @@ module _ (place : ℕ) (n : Name) (rest : List ℕ) (s : CallScan) (t : T (spell
   abbrev word : ℕ
   word = tape_word (call_kind + place) (length n)
 
-  call-passed : scanned_calls 0 (word ∷ (n ++ rest)) s ≡ scanned_calls (length n) (n ++ rest) (call_opened (only_if (not (is_built_in n)) (suc place)) s)
+  call-passed : scanned_calls 0 (word ∷ (n ++ rest)) s ≡ scanned_calls (length n) (n ++ rest)
+      (call_opened (only_if (not (is_built_in n)) (suc place)) s)
   call-passed =
       let short = name-short n t in
       let size : word % 256 ≡ length n = omega arith in
       let stands : word / 256 - call_kind ≡ place = omega arith in
       rw (word-then word (n ++ rest) s, le-leb 2304 word (omega arith), size, take-append_seam n rest, stands)
 
-  named-opens : scanned_calls 0 (named (call_kind + place) n ++ rest) s ≡ scanned_calls 0 rest (call_opened (only_if (not (is_built_in n)) (suc place)) s)
+  named-opens : scanned_calls 0 (named (call_kind + place) n ++ rest) s ≡ scanned_calls 0 rest
+      (call_opened (only_if (not (is_built_in n)) (suc place)) s)
   named-opens = call-passed ∙ name-then n rest _
 
 -- a call that is done in this manner, where it counts

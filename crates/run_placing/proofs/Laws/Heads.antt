@@ -2,7 +2,6 @@
 use Prim.Native.Nat.{ℕ, ◌+◌, ◌<◌, ◌%◌, ◌-◌}
 use mathlib.Core.Path.{◌≡◌, sym}
 use mathlib.Core.Bool.{Bool, true, false}
-use mathlib.Core.Option.{some}
 use lib.Dec.{eqb}
 use lib.ListN.{length, get_or}
 use borrow.Author.Tests.{ne_eqb, eq-eqb}
@@ -18,7 +17,8 @@ head-says : (w : ℕ) (field : Bytes) (b : Bool) → w % 65536 ≡ 1 → second_
     (place : ℕ) → check (test_of w) field place ≡ checked b
 head-says w field b h there e place = rw (look-from w 0 h, nth_in field (second_in w) there, e)
 
--- a Look counted from p, as the next test: it passes, and those after it say what is said; or it fails, whatever they say
+-- a Look counted from p, as the next test: it passes, and those after it say what is said; or it fails, whatever they
+-- say
 module _ (field : Bytes) (words : Words) (at left offset : ℕ) (some : 0 < left) (there : at < length words) (number : get_or words at 0 % 65536 ≡ 1)
     (e : offset ≡ second_in (get_or words at 0)) (inside : offset < length field) where
   pub head-passes : get_or field offset 0 ≡ third_in (get_or words at 0) → (place : ℕ) →

@@ -1,5 +1,5 @@
 -- The tests that are kept and those to come: what they say, test by test, in a range that finds the same.
-use Prim.Native.Nat.{ℕ, zero, suc, ◌+◌, ◌-◌, ◌<◌, ◌≤◌}
+use Prim.Native.Nat.{ℕ, zero, suc, ◌+◌, ◌<◌, ◌≤◌}
 use native.Mathlib.Nat.{le_of_suc-le-suc, not-suc-le-zero}
 use native.Mathlib.Numerals.{add-one}
 use native.Mathlib.Omega.{arith}
@@ -48,7 +48,8 @@ never-wrong passed b h h' e = h' e
 never-wrong failed b h h' e = let z : ◌≡◌ {A = ℕ} 0 1 = cc in omega arith
 never-wrong wrong b h h' e = h refl
 
--- All tests F are searched for in a range; the kept ones K, none of them wrong there, and those to come T say what F says in a
+-- All tests F are searched for in a range; the kept ones K, none of them wrong there, and those to come T say what F
+-- says in a
 -- range that finds the same.
 pub record Reached (F K T : ℕ → Checked) (first₀ places₀ first places : ℕ) : Type 0 where
   pub same : search F places first ≡ search F places₀ first₀

@@ -1,0 +1,7 @@
+-- The facts about `write_matching` that the check is told.
+use Rattle.code_sentences.proofs.Sentenced.{matched}
+use Rattle.code_sentences.proofs.write_matching.Goals as goal
+
+pub returns : goal.returns
+returns c =
+    matched c.requires.measures_all.0 c.write_tests-t.ensures c.write_conditions-c.ensures c.write_stores-stored.ensures
