@@ -5,7 +5,7 @@ use Rattle.code_table.proofs.functions.write_functions.Goals as goal
 pub loop-k-preserved : goal.loop-k-preserved
 loop-k-preserved c =
     functions-go-on c.loop-k.invariant c.loop-k-test.true c.lesser-entry.ensures c.write_entry-at.ensures
-    c.code-in-loop-k-1.given.1
+    (search)
 
 pub returns : goal.returns
 returns c = functions-all c.put.ensures c.loop-k.invariant c.loop-k-test.false

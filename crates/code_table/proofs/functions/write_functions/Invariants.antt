@@ -1,4 +1,4 @@
--- The loop invariants and measures of `functions::write_functions`. The loop keeps what the entries and functions written and those still to come amount to.
+-- The loop invariant and measure of `functions::write_functions`: it keeps what the entries and functions written and those still to come amount to.
 use Prim.Native.Nat.{◌-◌}
 use Rattle.code_table.proofs.Laws.Declared.{FunctionsSoFar}
 use Rattle.code_table.proofs.functions.write_functions.Given as goal
