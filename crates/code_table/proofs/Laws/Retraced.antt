@@ -141,8 +141,8 @@ call-closed place n a e depth items ws l ih =
     let back : depth + 1 - 1 ≡ depth = omega arith in
     rw (close-item depth items, back, ih, followed-end a)
 
-one_more_lem : (items n : ℕ) → items + suc n ≡ items + 1 + n
-one_more_lem items n = omega arith
+one_item_more : (items n : ℕ) → items + suc n ≡ items + 1 + n
+one_item_more items n = omega arith
 
 -- an expression's words are read as it, and then what comes after it is read on
 pub levels-expression : (e : Expression) (depth items : ℕ) (ws : List ℕ) → Short e → items + items_in e ≤ 128 → depth + nesting e ≤ 16 →
@@ -151,16 +151,16 @@ unfolding levels_in expression_tape items_in nesting followed
 levels-expression end depth items ws s h k = rw (add-zero items)
 levels-expression (then_character c e) depth items ws s h k =
     let ih = levels-expression e depth (items + 1) ws s.1 (omega arith) k in
-    rw (byte-item depth items (omega arith) c s.0, one_more_lem items (items_in e)) (ap (on_current (then_character c)) ih)
+    rw (byte-item depth items (omega arith) c s.0, one_item_more items (items_in e)) (ap (on_current (then_character c)) ih)
 levels-expression (then_symbol x e) depth items ws s h k =
     let ih = levels-expression e depth (items + 1) ws s.1 (omega arith) k in
-    rw (symbol-item depth items (omega arith) (length x) s.0, one_more_lem items (items_in e))
+    rw (symbol-item depth items (omega arith) (length x) s.0, one_item_more items (items_in e))
     (named_back (λ y. on_current (then_symbol y)) (levels_in depth (items + 1)) (levels-skip depth (items + 1)) symbol_kind x (expression_tape e)
     ws s.0
     ih)
 levels-expression (then_part x e) depth items ws s h k =
     let ih = levels-expression e depth (items + 1) ws s.1 (omega arith) k in
-    rw (part-item depth items (omega arith) (length x) s.0, one_more_lem items (items_in e))
+    rw (part-item depth items (omega arith) (length x) s.0, one_item_more items (items_in e))
     (named_back (λ y. on_current (then_part y)) (levels_in depth (items + 1)) (levels-skip depth (items + 1)) part_kind x (expression_tape e) ws
     s.0 ih)
 levels-expression (then_call place n a e) depth items ws s h k =
