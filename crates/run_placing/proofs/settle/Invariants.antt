@@ -8,9 +8,12 @@ use Rattle.run_placing.proofs.Laws.Settling.{Reached}
 use Rattle.run_placing.proofs.settle.Given as goal
 
 abbrev pub invariant-loop-left : goal.invariant-loop-left
-invariant-loop-left l = Reached (check_all (unpack_tests l.initial.left (drop l.initial.at l.code)) l.field) (check_all (unpack_tests l.size l.kept) l.field)
+invariant-loop-left l =
+    Reached (check_all (unpack_tests l.initial.left (drop l.initial.at l.code)) l.field)
+    (check_all (unpack_tests l.size l.kept) l.field)
     (check_all (unpack_tests l.left (drop l.at l.code)) l.field)
-    l.initial.from l.initial.among l.from l.among × (length l.kept ≡ length l.initial.kept)
+    l.initial.from l.initial.among l.from l.among ×
+    (length l.kept ≡ length l.initial.kept)
 
 abbrev pub decreases-loop-left : goal.decreases-loop-left
 decreases-loop-left l = l.left
