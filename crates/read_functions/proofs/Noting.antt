@@ -7,7 +7,6 @@ use native.Mathlib.Omega.{arith}
 use lib.Dec.{ltb→lt}
 use lib.ListN.{length, take, drop, length-append, take-append-drop}
 use lib.Seq.{sets-eq, length-sets, take_at, take-append_seam, drop-append_seam}
-use Rattle.meaning.specs.Choice.{Name}
 use Rattle.meaning.specs.Tree.{Function, Table}
 use Rattle.meaning.specs.Allowed.{names_of}
 use Rattle.meaning.proofs.Laws.Passing.{every-head}
@@ -63,7 +62,10 @@ names-there (f ∷ fs) before after s =
     rw (drop-append_seam before (ws ++ (Tape.tape fs ++ after))) (name-there f (Tape.tape fs ++ after) s.0) in
     let others : head_names (before ++ (ws ++ (Tape.tape fs ++ after))) (heads_from (length before + length ws) fs) ≡ names_of fs =
     rw (← (append_assoc before ws (Tape.tape fs ++ after)), ← (length-append before ws)) (names-there fs (before ++ ws) after s.1) in
-    rw (e, first, others)
+    let joined : head_names (before ++ (Tape.tape (f ∷ fs) ++ after)) (heads_from (length before) (f ∷ fs))
+    ≡ head_names (before ++ (ws ++ (Tape.tape fs ++ after))) (heads_from (length before) (f ∷ fs)) =
+    ap (λ (us : List ℕ). head_names (before ++ us) (heads_from (length before) (f ∷ fs))) e in
+    joined ∙ rw (first, others)
 
 -- the names at the heads that were noted are those of the functions
 pub names-noted : {tape heads : List ℕ} {words functions : ℕ} {t : Table} → Heads tape heads words functions t

@@ -17,7 +17,6 @@ use Rattle.read_functions.specs.declared.expressions.Joined.{Joined}
 use Rattle.read_functions.specs.declared.expressions.Joined.TheVariants.{Taken as Takes, Wrong, Refused, Other}
 use Rattle.read_bookkeeping.specs.Tables.{table_names}
 use Rattle.read_bookkeeping.specs.declared.progress.Fault.{Fault}
-use Rattle.read_bookkeeping.specs.declared.progress.Progress.{Progress}
 use Rattle.read_bookkeeping.specs.declared.progress.Parsed.{Parsed}
 use Rattle.read_bookkeeping.specs.declared.progress.Parsed.TheVariants.{Stopped as StoppedThere, Done as DoneThere}
 use Rattle.read_functions.specs.declared.expressions.ParsedExpression.{ParsedExpression}

@@ -28,7 +28,7 @@ use tape_words::wide::{CALL_KIND, KIND_WIDTH, PART_WORD, SYMBOL_WORD};
 
 // An expression so far: the place in the text and the words on the tape, its items, and how many of the pattern's
 // e-variables can't come any more.
-#[derive(Drop)]
+#[derive(Clone, Copy)]
 pub struct ExpressionCounts {
     pub at: usize,
     pub words: usize,
@@ -37,7 +37,7 @@ pub struct ExpressionCounts {
 }
 
 // What the readers of expressions and calls come to.
-#[derive(Drop)]
+#[derive(Clone, Copy)]
 pub enum ParsedExpression {
     Stopped(Fault),
     Done(ExpressionCounts),
@@ -45,7 +45,7 @@ pub enum ParsedExpression {
 
 // An expression with a token joined to it, what is wrong with the token, that it is a word but no variable, or that it
 // is no item.
-#[derive(Drop)]
+#[derive(Clone, Copy)]
 pub enum Joined {
     Taken(ExpressionCounts),
     Wrong(Answer),

@@ -23,7 +23,7 @@ use tape_words::names::is_known;
 use tape_words::wide::FUNCTION_WORD;
 
 // The words on the tape, the functions that were read, and the sentences that may still come.
-#[derive(Drop)]
+#[derive(Clone, Copy)]
 pub struct Tally {
     pub words: usize,
     pub functions: usize,
@@ -31,21 +31,21 @@ pub struct Tally {
 }
 
 // What the reader of a table's functions comes to.
-#[derive(Drop)]
+#[derive(Clone, Copy)]
 pub enum ParsedTable {
     Stopped(Fault),
     Done(Tally),
 }
 
 // How the reading of a table's functions stands: another may come, or it is over.
-#[derive(Drop)]
+#[derive(Clone, Copy)]
 pub enum Stage {
     Onward(Tally),
     Over(ParsedTable),
 }
 
 // A stage, and the place in the text where it was reached.
-#[derive(Drop)]
+#[derive(Clone, Copy)]
 pub struct Reached {
     pub stage: Stage,
     pub at: usize,

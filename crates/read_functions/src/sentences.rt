@@ -24,7 +24,7 @@ use tape_words::kinds::{END_WORD, EQUALS_WORD, NEXT_WORD};
 
 // Where the sentences of a function end: the place in the text and the words on the tape, and how many more sentences
 // the table may have.
-#[derive(Drop)]
+#[derive(Clone, Copy)]
 pub struct SentencesEnd {
     pub at: usize,
     pub words: usize,
@@ -32,7 +32,7 @@ pub struct SentencesEnd {
 }
 
 // What the readers of sentences and functions come to.
-#[derive(Drop)]
+#[derive(Clone, Copy)]
 pub enum ParsedSentences {
     Stopped(Fault),
     Done(SentencesEnd),
@@ -118,7 +118,7 @@ fn next_sentence(text: &[u8], tape: &mut [u32], left: usize, from: usize, words:
 }
 
 // What comes after a sentence: `}` with a spare `;` before it or not, or another sentence.
-#[derive(Drop)]
+#[derive(Clone, Copy)]
 pub enum Sequel {
     Ends(usize),
     Another(usize),

@@ -17,7 +17,7 @@ use read_gaps::{Skipped, skip};
 
 // How a word is read: outside sentences and directly after `<` by the rule of function names, inside a sentence by that
 // of variables.
-#[derive(Drop)]
+#[derive(Clone, Copy)]
 pub enum Mode {
     Outside,
     Inside,
@@ -25,13 +25,13 @@ pub enum Mode {
 }
 
 // A part of the text.
-#[derive(Drop)]
+#[derive(Clone, Copy)]
 pub struct Span {
     pub from: usize,
     pub past: usize,
 }
 
-#[derive(Drop)]
+#[derive(Clone, Copy)]
 pub enum Token {
     // A function's name.
     Name(Span),
@@ -49,7 +49,7 @@ pub enum Token {
 }
 
 // A token with the offset of its first byte and that of the byte after its last.
-#[derive(Drop)]
+#[derive(Clone, Copy)]
 pub struct Placed {
     pub token: Token,
     pub place: usize,

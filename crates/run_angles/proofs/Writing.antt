@@ -12,7 +12,8 @@ use lib.Seq.{sets, sets-eq}
 use borrow.Author.Tests.{lt-ltb, le-ltb, le-leb, lt-leb}
 use Rattle.meaning.specs.Choice.{Bytes, pick}
 use Rattle.meaning.specs.Numerals.{decimal, two_digits}
-use Rattle.meaning.specs.Angles.{Operation, cut_before, signed, angle_in, angle_text, Angled as Meant, not_angles, in_range, angled_of, angled, max_minutes}
+use Rattle.meaning.specs.Angles.{Operation, cut_before, signed, angle_in, angle_text, Angled as Meant, not_angles}
+use Rattle.meaning.specs.Angles.{in_range, angled_of, angled, max_minutes}
 use Rattle.meaning.proofs.Laws.Angles.{angle-form}
 use Rattle.meaning.specs.Leaving.{over}
 use Rattle.byte_writing.specs.Put.{Put}

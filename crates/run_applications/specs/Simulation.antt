@@ -1,6 +1,6 @@
 -- The invariant of a run, and the simulation of the machine: the outcome that was to come by its definition is the one
 -- that comes after a function has done its part.
-use Rattle.std.specs.Prelude.{ℕ, suc, ◌+◌, ◌-◌, ◌≤◌, ◌<◌, true, ◌≡◌, List, length, take, drop}
+use Rattle.std.specs.Prelude.{ℕ, suc, ◌+◌, ◌-◌, ◌≤◌, ◌<◌, true, ◌≡◌, length, take, drop}
 use Rattle.meaning.specs.Choice.{Bytes}
 use Rattle.meaning.specs.Outcome.{pay}
 use Rattle.meaning.specs.Instructions.{Action}

@@ -16,4 +16,5 @@ checked_meant Wrong = wrong
 -- the test of a word that is no Look, Compare or Predicate on a cell
 abbrev pub last_test : ℕ → Test
 last_test w =
-    pick (eqb (number_in w) predicate_part_number) (predicate_part_of (first_in w) (second_in w) (third_in w)) unknown_test
+    pick (eqb (number_in w) predicate_part_number) (predicate_part_of (first_in w) (second_in w) (third_in w))
+    unknown_test

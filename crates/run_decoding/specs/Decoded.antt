@@ -8,9 +8,9 @@ use Rattle.meaning.specs.Instructions.{Span, Action, go, select, out, out_c, out
 use Rattle.meaning.specs.Instructions.{compute, unknown_action}
 use Rattle.meaning.specs.Packing.{Words, number_in, first_in, second_in, third_in, actions_end, length_of, span_action}
 use Rattle.meaning.specs.Packing.{emission_of, unpack_actions}
-use Rattle.meaning.specs.Packing.{begin_seq_number, call_number, compute_number, emission_number, go_number, minus_number}
+use Rattle.meaning.specs.Packing.{begin_seq_number, call_number, compute_number, emission_number, go_number}
 use Rattle.meaning.specs.Packing.{out_c_number, out_number, out_v_number, plus_number, select_number, tail_call_number}
-use Rattle.meaning.specs.Packing.{use_seq_number}
+use Rattle.meaning.specs.Packing.{minus_number, use_seq_number}
 use Rattle.code_numbers.specs.Numbers.{first}
 use Rattle.run_code_places.specs.declared.CodePlace.{CodePlace}
 use Rattle.run_decoding.specs.declared.Found.{Found}

@@ -1,5 +1,6 @@
 -- Where a string stands in a text, and the bits by which it is looked for.
-use Rattle.std.specs.Prelude.{ℕ, zero, suc, ◌+◌, ◌-◌, ◌*◌, ◌<◌, ◌≡◌, Bool, List, [], ◌∷◌, leb, eqb, length, get_or, drop}
+use Rattle.std.specs.Prelude.{ℕ, zero, suc, ◌+◌, ◌-◌, ◌*◌, ◌<◌, ◌≡◌, Bool, List, [], ◌∷◌, leb, eqb, length, get_or}
+use Rattle.std.specs.Prelude.{drop}
 use Rattle.meaning.specs.Choice.{Bytes, pick, both, starts_with}
 use Rattle.meaning.specs.Matching.{Found, found_at, found_none, found_wrong, checked, search}
 use Rattle.byte_classes.specs.Tests.{byte_count}

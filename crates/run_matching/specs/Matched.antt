@@ -3,7 +3,8 @@ use Rattle.std.specs.Prelude.{ℕ, ◌+◌, ◌≤◌, ◌≡◌, leb, drop}
 use Rattle.std.proofs.Math.Option.{Option, none, some}
 use Rattle.meaning.specs.Choice.{Bytes, pick}
 use Rattle.meaning.specs.Instructions.{Metric}
-use Rattle.meaning.specs.Matching.{Found, found_wrong, chosen, chosen_none, chosen_wrong, find_place, places_of, first_place}
+use Rattle.meaning.specs.Matching.{Found, found_wrong, chosen, chosen_none, chosen_wrong, find_place, places_of}
+use Rattle.meaning.specs.Matching.{first_place}
 use Rattle.meaning.specs.Matching.{Choice as Choosing}
 use Rattle.meaning.specs.Packing.{Words, tests_in, stores_in, max_stored, unpack_tests, unpack_stores, unpack_actions}
 use Rattle.run_matching.specs.declared.Places.{Places}

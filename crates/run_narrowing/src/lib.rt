@@ -4,7 +4,8 @@
 ghost use Rattle.std.specs.Prelude.{◌+◌, ◌-◌, ◌≤◌, ◌<◌, ◌%◌, ◌/◌, ◌^◌, ◌≡◌, length, get_or};
 ghost use Rattle.meaning.specs.Choice.{pick};
 ghost use Rattle.meaning.specs.Matching.{check as tested};
-ghost use Rattle.meaning.specs.Packing.{number_in, first_in, test_of, from_place_number, predicate_part_number, registers};
+ghost use Rattle.meaning.specs.Packing.{number_in, first_in, test_of, from_place_number, predicate_part_number};
+ghost use Rattle.meaning.specs.Packing.{registers};
 ghost use Rattle.byte_classes.specs.Tests.{Answers};
 ghost use Rattle.run_searching.specs.Searches.{PlacesWithin};
 ghost use Rattle.run_narrowing.specs.Narrowed.{asks_place, Sifts};

@@ -1,3 +1,2 @@
--- The laws that the proofs of this crate cite, and what its proofs by hand share.
+-- The laws that the proofs of this crate cite.
 pub mod Laws
-pub mod Walks

@@ -49,7 +49,8 @@ module _ (ws : List ℕ) (i : ℕ) (heads : List ℕ) (count : ℕ) (inside : He
       → HeadsOn ws i heads count heads count
   head-none h k p q e = record { same = rw (functions-at ws i false k (rw p at (sym q ∙ e))); inside = inside; few = h }
 
-  pub head-noted : {word : ℕ} {is : Bool} → count < 64 → length heads ≡ 64 → i < length ws → word ≡ get_or ws i 0 → is ≡ is_function_word word → is ≡ true
+  pub head-noted : {word : ℕ} {is : Bool} → count < 64 → length heads ≡ 64 → i < length ws → word ≡ get_or ws i 0 → is ≡ is_function_word word
+      → is ≡ true
       → HeadsOn ws i heads count (set heads count i) (count + 1)
   head-noted h room k p q e =
       let more : 64 - count ≡ suc (64 - (count + 1)) = omega arith in
@@ -145,7 +146,8 @@ entry-written {ws} {heads} {part} {part₁} {part₂} {k} {at} {named = named} {
         → pack_sentences (translated_sentences t recoverer (sentences_on_tape max_sentences (drop (get_or heads k 0 + 1 + named) ws)))
         ≡ pack_sentences (translated_at t ws (get_or heads k 0))
     same-words t h =
-        let sentences : sentences_on_tape max_sentences (drop (get_or heads k 0 + 1 + named) ws) ≡ (function_on_tape (drop (get_or heads k 0) ws)).sentences =
+        let sentences : sentences_on_tape max_sentences (drop (get_or heads k 0 + 1 + named) ws) ≡ (function_on_tape
+        (drop (get_or heads k 0) ws)).sentences =
         rw e (sym (function-sentences ws (get_or heads k 0) inside)) in
         ap₂ (λ (r : ℕ) (ss : List Sentence). pack_sentences (translated_sentences t r ss))
         (function-recoverer t ws heads (get_or heads k 0) h e found) sentences

@@ -15,12 +15,15 @@ use Rattle.meaning.specs.Classes.{Class, class_number}
 use Rattle.meaning.specs.Tree.{character, symbol, Element, letter, part, Subject, of_symbol, of_part, Condition, Expression, end, then_character}
 use Rattle.meaning.specs.Tree.{then_symbol, then_part, then_call, Sentence, Function, Table}
 use Rattle.meaning.specs.Allowed.{max_functions, max_sentences, max_letters, max_items, distinct, parted, symbols_of, spelled_items, coming_after_all}
-use Rattle.meaning.specs.Allowed.{allowed_pattern, of_pattern, all_of_pattern, allowed_conditions, allowed_sentence, allowed_function, names_of, allowed}
+use Rattle.meaning.specs.Allowed.{allowed_pattern, of_pattern, all_of_pattern, allowed_conditions, allowed_sentence, allowed_function, names_of}
+use Rattle.meaning.specs.Allowed.{allowed}
 use Rattle.meaning.specs.Allowed.{is_byte, spelled_name, spelled_identifier, spelled_element, letters_in, parts_of, items_in, nesting, some_sentence}
 use Rattle.meaning.specs.Allowed.{sentences_in as sentences_of}
-use Rattle.tape_layout.specs.Tape.{tape_word, named, symbol_kind, part_kind, condition_kind, equals_kind, close_kind, next_kind, end_kind, function_kind}
+use Rattle.tape_layout.specs.Tape.{tape_word, symbol_kind, part_kind, condition_kind, equals_kind, close_kind, next_kind, end_kind}
+use Rattle.tape_layout.specs.Tape.{function_kind}
 use Rattle.tape_layout.specs.Tape.{call_kind}
-use Rattle.tape_layout.specs.Tape.{truth_number, subject_tape, pattern_tape, conditions_tape, expression_tape, sentence_tape, sentences_tape, function_tape}
+use Rattle.tape_layout.specs.Tape.{truth_number, subject_tape, pattern_tape, conditions_tape, expression_tape, sentence_tape, sentences_tape}
+use Rattle.tape_layout.specs.Tape.{function_tape}
 use Rattle.tape_layout.specs.Tape.{tape}
 use Rattle.meaning.specs.Packing.{truth_bit}
 use Rattle.tape_words.specs.declared.tape.Parts.{Parts}
@@ -29,7 +32,8 @@ use Rattle.tape_words.specs.declared.tape.Piece.TheVariants.{EVariable}
 use Rattle.tape_words.specs.declared.tape.Item.TheVariants.{Byte, Symbol, Part, Call, Close, Stop}
 use Rattle.tape_words.specs.Words.{carried, subject_of, piece_of, class_in, opening_of, item_of_word}
 use Rattle.code_expressions.specs.Levels.{place_in, Levels, levels_ended, on_current, level_opened, item_by, levels_in}
-use Rattle.code_sentences.specs.Trees.{is_function_word, conditions_at, levels_at, sentence_on_tape, sentences_on_tape, functions_on_tape, function_on_tape}
+use Rattle.code_sentences.specs.Trees.{is_function_word, conditions_at, levels_at, sentence_on_tape, sentences_on_tape, functions_on_tape}
+use Rattle.code_sentences.specs.Trees.{function_on_tape}
 use Rattle.code_sentences.specs.Trees.{tree_of}
 use Rattle.code_patterns.specs.Scans.{scanned, prepended, one_more, pattern_on_tape, condition_by, conditions_on_tape, pattern_at}
 use Rattle.code_patterns.proofs.Laws.Scanning.{pattern-skip}
@@ -137,8 +141,8 @@ call-closed place n a e depth items ws l ih =
     let back : depth + 1 - 1 ≡ depth = omega arith in
     rw (close-item depth items, back, ih, followed-end a)
 
-one_more_lem : (items n : ℕ) → items + suc n ≡ items + 1 + n
-one_more_lem items n = omega arith
+one_item_more : (items n : ℕ) → items + suc n ≡ items + 1 + n
+one_item_more items n = omega arith
 
 -- an expression's words are read as it, and then what comes after it is read on
 pub levels-expression : (e : Expression) (depth items : ℕ) (ws : List ℕ) → Short e → items + items_in e ≤ 128 → depth + nesting e ≤ 16 →
@@ -147,16 +151,18 @@ unfolding levels_in expression_tape items_in nesting followed
 levels-expression end depth items ws s h k = rw (add-zero items)
 levels-expression (then_character c e) depth items ws s h k =
     let ih = levels-expression e depth (items + 1) ws s.1 (omega arith) k in
-    rw (byte-item depth items (omega arith) c s.0, one_more_lem items (items_in e)) (ap (on_current (then_character c)) ih)
+    rw (byte-item depth items (omega arith) c s.0, one_item_more items (items_in e)) (ap (on_current (then_character c)) ih)
 levels-expression (then_symbol x e) depth items ws s h k =
     let ih = levels-expression e depth (items + 1) ws s.1 (omega arith) k in
-    rw (symbol-item depth items (omega arith) (length x) s.0, one_more_lem items (items_in e))
-    (named_back (λ y. on_current (then_symbol y)) (levels_in depth (items + 1)) (levels-skip depth (items + 1)) symbol_kind x (expression_tape e) ws s.0
+    rw (symbol-item depth items (omega arith) (length x) s.0, one_item_more items (items_in e))
+    (named_back (λ y. on_current (then_symbol y)) (levels_in depth (items + 1)) (levels-skip depth (items + 1)) symbol_kind x (expression_tape e)
+    ws s.0
     ih)
 levels-expression (then_part x e) depth items ws s h k =
     let ih = levels-expression e depth (items + 1) ws s.1 (omega arith) k in
-    rw (part-item depth items (omega arith) (length x) s.0, one_more_lem items (items_in e))
-    (named_back (λ y. on_current (then_part y)) (levels_in depth (items + 1)) (levels-skip depth (items + 1)) part_kind x (expression_tape e) ws s.0 ih)
+    rw (part-item depth items (omega arith) (length x) s.0, one_item_more items (items_in e))
+    (named_back (λ y. on_current (then_part y)) (levels_in depth (items + 1)) (levels-skip depth (items + 1)) part_kind x (expression_tape e) ws
+    s.0 ih)
 levels-expression (then_call place n a e) depth items ws s h k =
     let more = tape_word close_kind 0 ∷ (expression_tape e ++ ws) in
     let inner = levels-expression a (depth + 1) (items + 1) more s.1 (omega arith) (omega arith) in
@@ -166,7 +172,8 @@ levels-expression (then_call place n a e) depth items ws s h k =
     (named_back (level_opened place) (levels_in (depth + 1) (items + 1)) (levels-skip (depth + 1) (items + 1)) (call_kind + place) n
     (expression_tape a ++ tape_word close_kind 0 ∷ expression_tape e) ws s.0
     (ap (levels_in (depth + 1) (items + 1) 0) (append_assoc (expression_tape a) (tape_word close_kind 0 ∷ expression_tape e) ws) ∙ inner)
-    ∙ call-closed place n a e depth (items + 1 + items_in a) (expression_tape e ++ ws) (levels_in depth (items + 1 + items_in a + items_in e) 0 ws) outer)
+    ∙ call-closed place n a e depth (items + 1 + items_in a) (expression_tape e ++ ws)
+    (levels_in depth (items + 1 + items_in a + items_in e) 0 ws) outer)
 
 -- SPELLING
 
@@ -241,7 +248,8 @@ pattern-back (part x ∷ p) letters parts ws s h k ends =
     let ih = pattern-back p letters (one_more parts) ws (both_right (spelled_identifier x) (every spelled_element p) s) h
     (one_less parts (length (parts_of p)) k) ends in
     rw (part-piece (length x) letters parts (omega arith) (omega arith))
-    (named_back (λ y. prepended (part y)) (pattern_on_tape letters (one_more parts)) (pattern-skip letters (one_more parts)) part_kind x (pattern_tape p) ws
+    (named_back (λ y. prepended (part y)) (pattern_on_tape letters (one_more parts)) (pattern-skip letters (one_more parts)) part_kind x
+    (pattern_tape p) ws
     (omega arith) ih)
 
 -- CONDITIONS
@@ -300,7 +308,8 @@ by_kind P told each (of_part x) = each true x
 
 condition-back : (count : ℕ) (class : Class) (expected kind : Bool) (x : Name) (cs : List Condition) (tail ws : List ℕ)
     → count < 8 → conditions_on_tape (count + 1) 0 (tail ++ ws) ≡ scanned cs ws → spelled_identifier x ≡ true
-    → conditions_on_tape count 0 (tape_word condition_kind (carried_by kind (length x) (truth_number expected + class_number class)) ∷ ((x ++ tail) ++ ws))
+    → conditions_on_tape count 0 (tape_word condition_kind (carried_by kind (length x) (truth_number expected + class_number class))
+    ∷ ((x ++ tail) ++ ws))
     ≡ scanned (record { predicate = class; subject = subject_of kind x; expected = expected } ∷ cs) ws
 unfolding conditions_on_tape
 condition-back count class expected kind x cs tail ws h ih s =
@@ -473,7 +482,8 @@ bytes-quiet : (x : Name) → T (every is_byte x) → every quiet x ≡ true
 bytes-quiet x t = every_more is_byte quiet byte-quiet x (passed-true (every is_byte x) t)
 
 -- a word, the identifier after it, and what comes then
-variable-quiet : (w : ℕ) (x : Name) (ws : List ℕ) → w < 2048 → spelled_identifier x ≡ true → every quiet ws ≡ true → every quiet (w ∷ (x ++ ws)) ≡ true
+variable-quiet : (w : ℕ) (x : Name) (ws : List ℕ) → w < 2048 → spelled_identifier x ≡ true → every quiet ws ≡ true
+    → every quiet (w ∷ (x ++ ws)) ≡ true
 unfolding every
 variable-quiet w x ws h e q =
     rw (quiet-low w h) (every_append quiet x ws (bytes-quiet x (identifier-bytes x (true-passed (spelled_identifier x) e))) q)
@@ -525,7 +535,8 @@ expression-quiet (then_call place n a e) l =
     let others = both_right (spelled_name n) (both (legible a) (legible e)) l in
     rw (quiet-high (tape_word (call_kind + place) (length n)) (omega arith))
     (every_append quiet n (expression_tape a ++ tape_word close_kind 0 ∷ expression_tape e) (name-quiet n spelled)
-    (every_append quiet (expression_tape a) (tape_word close_kind 0 ∷ expression_tape e) (expression-quiet a (both_left (legible a) (legible e) others))
+    (every_append quiet (expression_tape a) (tape_word close_kind 0 ∷ expression_tape e)
+    (expression-quiet a (both_left (legible a) (legible e) others))
     (expression-quiet e (both_right (legible a) (legible e) others))))
 
 sentence-quiet : (s : Sentence) → Retraceable s → every quiet (sentence_tape s) ≡ true

@@ -29,5 +29,6 @@ Back [] = Unit {0}
 Back (t ∷ ts) = (tree_of (tape t) ≡ t) × Back ts
 
 pub back : Back (table_z ∷ table_r ∷ table_h ∷ table_k ∷ table_p ∷ table_m ∷ table_f ∷ [])
-unfolding tape pattern_tape conditions_tape expression_tape sentences_tape pattern_on_tape conditions_on_tape levels_in sentences_on_tape functions_on_tape
+unfolding tape pattern_tape conditions_tape expression_tape sentences_tape pattern_on_tape conditions_on_tape levels_in sentences_on_tape
+    functions_on_tape
 back = (refl, (refl, (refl, (refl, (refl, (refl, (refl, tt)))))))

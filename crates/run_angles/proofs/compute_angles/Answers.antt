@@ -1,4 +1,5 @@
--- The facts about `compute_angles` that the check is told.
+-- The facts about `compute_angles` that the check is told: with no blank there are no angles, and else their sum is
+-- put.
 use mathlib.Core.Path.{◌≡◌}
 use lib.ListN.{length}
 use Rattle.meaning.specs.Angles.{operation}

@@ -1,4 +1,4 @@
--- The facts about `number_in` that the check is told.
+-- The facts about `number_in` that the check is told: a digit is read, and a byte that is none, or the end, decides.
 use Rattle.run_angles.proofs.Reading.{read-on, read_under, read-over, read_past, read_done}
 use Rattle.run_angles.proofs.number_in.Goals as goal
 

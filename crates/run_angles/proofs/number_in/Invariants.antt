@@ -1,4 +1,5 @@
--- The loop invariants and measures of `number_in`.
+-- The loop invariants and measures of `number_in`. The loop's invariant: the digits so far are read, and make the
+-- value.
 use Prim.Native.Nat.{◌-◌}
 use lib.ListN.{length}
 use Rattle.run_angles.proofs.Reading.{Reads}

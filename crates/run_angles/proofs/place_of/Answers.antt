@@ -1,4 +1,4 @@
--- The facts about `place_of` that the check is told.
+-- The facts about `place_of` that the check is told: the byte stands here, or further on, or nowhere.
 use Rattle.run_angles.proofs.Reading.{seek-on, seek_found, seek-end}
 use Rattle.run_angles.proofs.place_of.Goals as goal
 

@@ -1,4 +1,4 @@
--- The loop invariants and measures of `place_of`.
+-- The loop invariants and measures of `place_of`. The loop's invariant: the byte is to be sought from here on.
 use Prim.Native.Nat.{◌-◌}
 use lib.ListN.{length}
 use Rattle.run_angles.proofs.Reading.{Seeks}

@@ -7,7 +7,7 @@ use mathlib.Core.Bool.{true}
 use mathlib.Core.List.{List, [], ◌∷◌, map}
 use mathlib.Core.Option.{Option, some}
 use lib.Dec.{leb}
-use lib.ListN.{length, get_or, take, drop, set, length-take, length-drop, length-set, length-map}
+use lib.ListN.{length, get_or, take, drop, length-take, length-drop, length-set, length-map}
 use lib.Seq.{get_or-take, get_or-drop, take-take, take-add, drop_at, length-take-le}
 use borrow.Author.Tests.{lt-ltb, leb-true}
 use Rattle.meaning.specs.Choice.{Bytes, nth}

@@ -1,6 +1,5 @@
 -- The facts about `check_all` that the check is told: what a test says, and where it passes what the tests after it
--- say,
--- is what all of them say.
+-- say, is what all of them say.
 use Rattle.run_checking.proofs.Laws.Testing.{no-tests, tests-run-out, next-test}
 use Rattle.run_checking.proofs.check_all.Goals as goal
 

@@ -1,4 +1,4 @@
--- The facts about `look_ahead` that the check is told.
+-- The facts about `look_ahead` that the check is told: the cell is there, or it is not.
 use Rattle.run_sites.proofs.Laws.Lists.{nth_in, nth-out}
 use Rattle.run_checking.proofs.look_ahead.Goals as goal
 

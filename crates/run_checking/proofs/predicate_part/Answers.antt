@@ -1,5 +1,5 @@
--- The fact about `predicate_part` that the check is told: both sites are inside the field, and the class table answers
--- for each byte between them.
+-- The fact about `predicate_part` that the check is told: both sites are inside the field, and the class table
+-- answers for each byte between them.
 use Prim.Native.Nat.{ℕ, ◌/◌, ◌%◌}
 use mathlib.Core.Bool.{Bool}
 use mathlib.Core.Option.{Option}

@@ -1,4 +1,4 @@
--- The facts about `leading` that the check is told.
+-- The facts about `leading` that the check is told: a byte in the class goes on, another one or the end stops.
 use native.Mathlib.Omega.{arith}
 use mathlib.Core.Path.{sym, ◌∙◌}
 use Rattle.byte_classes.specs.Tests.{class_test}

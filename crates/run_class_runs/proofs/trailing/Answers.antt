@@ -1,4 +1,4 @@
--- The facts about `trailing` that the check is told.
+-- The facts about `trailing` that the check is told: a byte in the class goes on, another one or the beginning stops.
 use native.Mathlib.Omega.{arith}
 use mathlib.Core.Path.{sym, ◌∙◌}
 use lib.ListN.{length}

@@ -25,7 +25,8 @@ passed-right e e' = let z : ◌≡◌ {A = ℕ} 0 1 = cc in omega arith
 pub cell-right : (byte : ℕ) (field : Bytes) (index : ℕ) → index < length field → get_or field index 0 ≡ byte → cell_says byte field index ≡ wrong → ⊥
 cell-right byte field index there same = passed-right (rw (nth_in field index there, same, eq-eqb byte byte refl))
 
-pub cell-fails : (byte : ℕ) (field : Bytes) (index : ℕ) → index < length field → (get_or field index 0 ≡ byte → ⊥) → cell_says byte field index ≡ failed
+pub cell-fails : (byte : ℕ) (field : Bytes) (index : ℕ) → index < length field → (get_or field index 0 ≡ byte → ⊥) →
+    cell_says byte field index ≡ failed
 cell-fails byte field index there other = rw (nth_in field index there, ne_eqb byte (get_or field index 0) (λ e. other (rw e)))
 
 -- A LOOK

@@ -10,7 +10,8 @@ use borrow.Author.Tests.{le-leb}
 use Rattle.meaning.specs.Choice.{Bytes}
 use Rattle.meaning.specs.Instructions.{whole, go, ends}
 use Rattle.meaning.specs.Matching.{Checked, failed, Found, found_at, found_none, found_wrong, check_all, search, chosen_none}
-use Rattle.meaning.specs.Packing.{Words, metric_in, body_in, counts_word, ends_number, sentences_end, number_in, unpack_tests, unpack_stores, unpack_actions}
+use Rattle.meaning.specs.Packing.{Words, metric_in, body_in, counts_word, ends_number, sentences_end, number_in}
+use Rattle.meaning.specs.Packing.{unpack_tests, unpack_stores, unpack_actions}
 use Rattle.code_numbers.specs.Numbers.{sentence_head}
 use Rattle.meaning.proofs.Laws.Remaining.{at_place}
 use Rattle.run_searching.proofs.Laws.Places.{search-none}

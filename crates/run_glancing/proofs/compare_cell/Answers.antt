@@ -1,4 +1,4 @@
--- The facts about `compare_cell` that the check is told.
+-- The facts about `compare_cell` that the check is told: the cell has the byte, or it has another.
 use Rattle.run_glancing.proofs.Laws.Looks.{cell-right, cell-fails}
 use Rattle.run_glancing.proofs.compare_cell.Goals as goal
 

@@ -1,6 +1,5 @@
 -- The facts about `choose` that the check is told: a sentence is chosen or wrong as it was found, and else the choice
--- is
--- made from the next one on.
+-- is made from the next one on.
 use Prim.Native.Nat.{◌+◌}
 use lib.ListN.{get_or, drop}
 use Rattle.meaning.specs.Packing.{metric_in}

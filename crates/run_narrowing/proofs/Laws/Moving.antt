@@ -48,7 +48,8 @@ Apart (some (from_place k)) = ⊥
 pub site-apart : (register k : ℕ) → (register ≡ 2 → ⊥) → Apart (site_of register k)
 site-apart register k h = by_register (eqb register 0) (eqb register 1) (eqb register 2) (ne_eqb register 2 h)
   where
-    by_register : (b b' b'' : Bool) → b'' ≡ false → Apart (pick b (some (from_start k)) (pick b' (some (from_end k)) (pick b'' (some (from_place k)) none)))
+    by_register : (b b' b'' : Bool) → b'' ≡ false →
+        Apart (pick b (some (from_start k)) (pick b' (some (from_end k)) (pick b'' (some (from_place k)) none)))
     by_register true b' b'' e = tt
     by_register false true b'' e = tt
     by_register false false b'' e = rw e tt
@@ -98,7 +99,8 @@ module _ (field : Bytes) (p q : ℕ) where
       let first = eqb-false (first_in w % 4) 2 apart.0 in
       let second = eqb-false (first_in w / 4 % 4) 2 apart.1 in
       let apart-first = site-apart (first_in w % 4) (second_in w) first in
-      any-test Still w (look-still (site_of (first_in w) (second_in w)) (third_in w) (site-apart (first_in w) (second_in w) (λ h. first (omega arith))))
+      any-test Still w
+      (look-still (site_of (first_in w) (second_in w)) (third_in w) (site-apart (first_in w) (second_in w) (λ h. first (omega arith))))
       (compare-still (site_of (first_in w % 4) (second_in w)) (site_of (first_in w / 4) (third_in w)) apart-first
       (site-apart (first_in w / 4) (third_in w) (λ h. second (omega arith))))
       (predicate-still (site_of (first_in w % 4) (second_in w)) (class_of (third_in w)) (eqb (first_in w / 4) 1) apart-first)
@@ -156,7 +158,8 @@ module _ (field : Bytes) (p q : ℕ) (order : p ≤ q) where
   compare-on : (o o' : Option Site) → WrongOn (compare_of o o')
   compare-on none o' e = e
   compare-on (some s) none e = e
-  compare-on (some s) (some r) e = two-wrong eqb (cell_at s field p) (cell_at r field p) (cell_at s field q) (cell_at r field q) (cell-on s) (cell-on r) e
+  compare-on (some s) (some r) e =
+      two-wrong eqb (cell_at s field p) (cell_at r field p) (cell_at s field q) (cell_at r field q) (cell-on s) (cell-on r) e
 
   predicate-on : (o : Option Site) (class : Option Class) (expected : Bool) → WrongOn (predicate_for o class expected)
   predicate-on none class expected e = e

@@ -156,8 +156,8 @@ module _ (field : Bytes) (w first places fixed : ℕ) (r : Sifted) (number : num
       says : (p : ℕ) → first ≤ p → p < first + places → check (test_of w) field p ≡ checked (same_truth early (ltb (p - first) turn))
       says p h h' =
           rw (part-test w number, register, turned, truth, near)
-          (first_says field first places (first_in w / 32) (third_in w) fixed (eqb (first_in w / 16 % 2) 1) (site_of (first_in w % 4) (second_in w)) class
-          (site-apart (first_in w % 4) (second_in w) apart) e lead some-place (rw near at begins) (rw near at ends) (rw near at leads) p h h')
+          (first_says field first places (first_in w / 32) (third_in w) fixed (eqb (first_in w / 16 % 2) 1) (site_of (first_in w % 4) (second_in w))
+          class (site-apart (first_in w % 4) (second_in w) apart) e lead some-place (rw near at begins) (rw near at ends) (rw near at leads) p h h')
 
   pub second-sifted : (nearest trail turn : ℕ) (early : Bool) → first_in w % 4 ≡ 2 → (first_in w / 4 % 4 ≡ 2 → ⊥) →
       some fixed ≡ site_before (site_of (first_in w / 4 % 4) (third_in w)) (length field) first → nearest ≡ first + second_in w →
@@ -170,5 +170,5 @@ module _ (field : Bytes) (w first places fixed : ℕ) (r : Sifted) (number : num
       says : (p : ℕ) → first ≤ p → p < first + places → check (test_of w) field p ≡ checked (same_truth early (ltb (p - first) turn))
       says p h h' =
           rw (part-test w number, register, turned, truth)
-          (second-says field first places (first_in w / 32) (second_in w) fixed (eqb (first_in w / 16 % 2) 1) (site_of (first_in w / 4 % 4) (third_in w))
-          class (site-apart (first_in w / 4 % 4) (third_in w) apart) e trail some-place (rw near at ends) (rw near at trails) p h h')
+          (second-says field first places (first_in w / 32) (second_in w) fixed (eqb (first_in w / 16 % 2) 1)
+          (site_of (first_in w / 4 % 4) (third_in w)) class (site-apart (first_in w / 4 % 4) (third_in w) apart) e trail some-place (rw near at ends) (rw near at trails) p h h')

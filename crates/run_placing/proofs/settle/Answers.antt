@@ -1,5 +1,5 @@
--- The facts about `settle` that the check is told: a test and those after it are all that are still to come, and it is
--- kept or narrows the range.
+-- The facts about `settle` that the check is told: a test and those after it are all that are still to come, and it
+-- is kept or narrows the range.
 use native.Mathlib.Omega.{arith}
 use mathlib.Core.Path.{refl}
 use lib.ListN.{length-set}

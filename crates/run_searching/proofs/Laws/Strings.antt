@@ -140,7 +140,8 @@ module _ (string field : Bytes) (places first offset : ℕ) where
   abbrev finding : Found
   finding = search (check_all (looks offset string) field) places first
 
-  string-found : (o : Occurrence) → o ≡ occurrence string field places (first + offset) → (o ≡ Unsuited → ⊥) → o ≡ occurrence_of (moved offset finding)
+  string-found : (o : Occurrence) → o ≡ occurrence string field places (first + offset) → (o ≡ Unsuited → ⊥) →
+      o ≡ occurrence_of (moved offset finding)
   string-found o e ne =
       let looked = looked-for string field places (first + offset) o e ne in
       let starts : ℕ → Checked = λ p. checked (starts_with string (drop p field)) in

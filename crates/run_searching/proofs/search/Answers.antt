@@ -1,6 +1,5 @@
 -- The facts about `search` that the check is told: what the tests at a place say, and where they fail what is found
--- from
--- the next one on, is what is found.
+-- from the next one on, is what is found.
 use native.Mathlib.Omega.{arith}
 use Rattle.run_searching.proofs.Laws.Places.{no-places, next_place}
 use Rattle.run_searching.proofs.search.Goals as goal

@@ -1,4 +1,4 @@
--- The facts about `string_of` that the check is told.
+-- The facts about `string_of` that the check is told: at first no byte is spelled, and one test spells one byte more.
 use native.Mathlib.Omega.{arith}
 use Prim.Native.Nat.{◌+◌}
 use mathlib.Core.Path.{refl, sym, ◌∙◌}

@@ -1,4 +1,4 @@
--- The facts about `byte_at` that the check is told.
+-- The facts about `byte_at` that the check is told: the cell is in the field, or past its end.
 use mathlib.Core.Path.{sym}
 use Rattle.run_sites.proofs.Laws.Lists.{nth_in, nth-out}
 use Rattle.run_sites.proofs.byte_at.Goals as goal

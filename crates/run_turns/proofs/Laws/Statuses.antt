@@ -2,16 +2,12 @@
 use Prim.Native.Nat.{ℕ}
 use mathlib.Core.Path.{◌≡◌, refl, sym, ap, subst, ◌∙◌}
 use mathlib.Core.Bool.{true, false}
-use mathlib.Core.Logic.{◌⊎◌, inl, inr}
-use lib.Dec.{T, eqb}
-use denote.Enum.Declared.{tag_of}
+use lib.Dec.{T}
 use Rattle.run_actions.specs.declared.registers.Registers.{Registers}
 use Rattle.run_actions.specs.declared.registers.Next.{Next}
 use Rattle.run_actions.specs.declared.registers.Next.TheVariants.{Onward, Done, Stopped, Deeper}
 use Rattle.run_actions.specs.declared.registers.Status.{Status}
 use Rattle.run_actions.specs.declared.registers.Status.TheVariants as status
-use Rattle.run_actions.specs.contracts.registers.Next as next-declared
-use Rattle.run_actions.specs.contracts.registers.Status as status-declared
 use Rattle.run_actions.specs.States.{Memory}
 use Rattle.run_applications.specs.Waiting.{measure}
 use Rattle.run_applications.specs.Simulation.{registers_in}
@@ -38,15 +34,12 @@ is-over status.Done g e = tt
 is-over (status.Stopped ending function) g e = tt
 is-over status.Deeper g e = tt
 
--- an answer's tag says that the run doesn't go on here
-pub over-tagged : (r : Next) → (tag_of next-declared.the_type r ≡ 1) ⊎ ((tag_of next-declared.the_type r ≡ 2) ⊎ (tag_of next-declared.the_type r ≡ 3)) →
-    IsOver r
-over-tagged (Onward g) (inl e) = absurd (subst (λ (k : ℕ). T (eqb 0 k)) e tt)
-over-tagged (Onward g) (inr (inl e)) = absurd (subst (λ (k : ℕ). T (eqb 0 k)) e tt)
-over-tagged (Onward g) (inr (inr e)) = absurd (subst (λ (k : ℕ). T (eqb 0 k)) e tt)
-over-tagged (Done g) e = tt
-over-tagged (Stopped g ending function) e = tt
-over-tagged (Deeper g) e = tt
+-- an answer that is none that goes on has ended the run here
+pub over-other : (r : Next) → ((g : Registers) → r ≡ Onward g → ⊥) → IsOver r
+over-other (Onward g) other = absurd (other g refl)
+over-other (Done g) other = tt
+over-other (Stopped g ending function) other = tt
+over-other (Deeper g) other = tt
 
 -- nothing is left to do then
 pub over-left : (size allowance : ℕ) (r : Next) (n : Memory) → IsOver r → measure size allowance r n ≡ 0
@@ -61,22 +54,3 @@ over-kept (Onward h) g over = absurd over
 over-kept (Done h) g over = refl
 over-kept (Stopped h ending function) g over = refl
 over-kept (Deeper h) g over = refl
-
--- the tag tells how the run goes on
-pub onward-tagged : (x : Status) (g : Registers) → tag_of status-declared.the_type x ≡ 0 → Onward g ≡ next_of x g
-onward-tagged status.Onward g e = refl
-onward-tagged status.Done g e = absurd (subst (λ (k : ℕ). T (eqb 1 k)) e tt)
-onward-tagged (status.Stopped ending function) g e = absurd (subst (λ (k : ℕ). T (eqb 2 k)) e tt)
-onward-tagged status.Deeper g e = absurd (subst (λ (k : ℕ). T (eqb 3 k)) e tt)
-
-pub done-tagged : (x : Status) (g : Registers) → tag_of status-declared.the_type x ≡ 1 → Done g ≡ next_of x g
-done-tagged status.Onward g e = absurd (subst (λ (k : ℕ). T (eqb 0 k)) e tt)
-done-tagged status.Done g e = refl
-done-tagged (status.Stopped ending function) g e = absurd (subst (λ (k : ℕ). T (eqb 2 k)) e tt)
-done-tagged status.Deeper g e = absurd (subst (λ (k : ℕ). T (eqb 3 k)) e tt)
-
-pub deeper-tagged : (x : Status) (g : Registers) → tag_of status-declared.the_type x ≡ 3 → Deeper g ≡ next_of x g
-deeper-tagged status.Onward g e = absurd (subst (λ (k : ℕ). T (eqb 0 k)) e tt)
-deeper-tagged status.Done g e = absurd (subst (λ (k : ℕ). T (eqb 1 k)) e tt)
-deeper-tagged (status.Stopped ending function) g e = absurd (subst (λ (k : ℕ). T (eqb 2 k)) e tt)
-deeper-tagged status.Deeper g e = refl

@@ -1,4 +1,4 @@
--- The loop invariants and measures of `nested_call`. `tape_flatness::nested_call` meets its contract: the scan from the start is that from here.
+-- The loop invariants and measures of `nested_call`. The scan from the start is that from here.
 use Prim.Native.Nat.{◌-◌}
 use mathlib.Core.Path.{◌≡◌}
 use lib.ListN.{length, drop}

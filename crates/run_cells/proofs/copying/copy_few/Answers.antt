@@ -1,4 +1,4 @@
--- The facts about `copying::copy_few` that the check is told.
+-- The fact about `copying::copy_few` that the check is told: the three parts are the whole copy.
 use Rattle.run_cells.proofs.Laws.Copying.{pasted-few}
 use Rattle.run_cells.proofs.copying.copy_few.Goals as goal
 

@@ -1,4 +1,4 @@
--- The facts about `copying::copy_over` that the check is told.
+-- The fact about `copying::copy_over` that the check is told: one byte more is pasted over.
 use native.Mathlib.Omega.{arith}
 use lib.ListN.{length-set}
 use Rattle.run_cells.proofs.Laws.Copying.{pasted-one}

@@ -1,4 +1,4 @@
--- The facts about `moving::move_few` that the check is told: after its three parts all bytes are moved.
+-- The fact about `moving::move_few` that the check is told: after its three parts all bytes are moved.
 use Rattle.std.proofs.Common.{ap, refl}
 use Rattle.run_cells.proofs.Laws.Moving.{none-moved, part_moved, all_moved}
 use Rattle.run_cells.proofs.moving.move_few.Goals as goal
