@@ -10,7 +10,7 @@ use tape_words::names::is_known;
 use tape_words::wide::{CALL_KIND, CALL_WORD, KIND_WIDTH};
 
 // The place of the first called name that is neither built in nor declared, if there is one.
-#[derive(Drop)]
+#[derive(Clone, Copy)]
 pub enum Unknown {
     At(usize),
     Nowhere,

@@ -15,7 +15,7 @@ use tape_words::limits::MAX_TABLE;
 use tape_words::tape::room;
 
 // An answer and its place; of an accepted table how many functions it has, and how many words its tape.
-#[derive(Drop)]
+#[derive(Clone, Copy)]
 pub struct Reading {
     pub answer: Answer,
     pub place: usize,

@@ -1,0 +1,12 @@
+-- The loop invariants and measures of `calls::unknown_call`. The search from the start is that from here.
+use Prim.Native.Nat.{◌-◌}
+use lib.ListN.{length, take}
+use Rattle.tape_words.specs.Words.{head_names}
+use Rattle.read_table.proofs.Called.{Searching}
+use Rattle.read_table.proofs.calls.unknown_call.Given as goal
+
+abbrev pub invariant-loop-i : goal.invariant-loop-i
+invariant-loop-i l = Searching (head_names l.tape (take l.functions l.heads)) l.tape l.i
+
+abbrev pub decreases-loop-i : goal.decreases-loop-i
+decreases-loop-i l = length l.tape - l.i
