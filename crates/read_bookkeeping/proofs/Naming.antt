@@ -63,7 +63,8 @@ module _ (text : Bytes) (x : Span) (p : Inside text x) where
   pub called-long : max_name < x.past - x.from → over_limit ≡ called_fault (span_text text x)
   called-long h = rw (too_long text x p max_name h)
 
-  pub called_is : x.past - x.from ≤ max_name → {is : Bool} → is_predicate (span_text text x) ≡ is → pick is wrong_name 0 ≡ called_fault (span_text text x)
+  pub called_is : x.past - x.from ≤ max_name → {is : Bool} → is_predicate (span_text text x) ≡ is
+      → pick is wrong_name 0 ≡ called_fault (span_text text x)
   called_is h {is} e = rw (short-enough text x p max_name h, e) (fault-if is wrong_name)
 
 -- A LATER VARIABLE

@@ -37,12 +37,13 @@ NoName t = (name : Span) → t ≡ Name name → ⊥
 module _ (text : Bytes) (place past : ℕ) where
   pub fault-same : (t : Token) → token_fault t ≡ Reading.fault_of (token_of text t place past)
   fault-same =
-      by_kind (λ t. token_fault t ≡ Reading.fault_of (token_of text t place past)) (λ n. refl) (λ x. refl) (λ x. refl) refl (λ n. refl) (λ b. refl) refl
-      refl
+      by_kind (λ t. token_fault t ≡ Reading.fault_of (token_of text t place past))
+      (λ n. refl) (λ x. refl) (λ x. refl) refl (λ n. refl) (λ b. refl) refl refl
 
   pub sign_same : (byte : ℕ) (t : Token) → sign_is byte t ≡ Reading.is_sign byte (token_of text t place past)
   sign_same byte =
-      by_kind (λ t. sign_is byte t ≡ Reading.is_sign byte (token_of text t place past)) (λ n. refl) (λ x. refl) (λ x. refl) refl (λ n. refl) (λ b. refl)
+      by_kind (λ t. sign_is byte t ≡ Reading.is_sign byte (token_of text t place past))
+      (λ n. refl) (λ x. refl) (λ x. refl) refl (λ n. refl) (λ b. refl)
       refl refl
 
 pub sign-shown : (text : Bytes) (t : Placed) (byte : ℕ) {is : Bool} → sign_is byte t.token ≡ is

@@ -38,7 +38,8 @@ is_digit_lem b e =
 abbrev Turns : Quoting → ℕ → (Bytes → Turn) → Type 0
 Turns state b does = (characters : Bytes) → turn state characters b ≡ does characters
 
-taking : (text : Bytes) (state : Quoting) (at : ℕ) {does : Bytes → Turn} → at < length text → Turns state (get_or text at 0) does → (characters : Bytes)
+taking : (text : Bytes) (state : Quoting) (at : ℕ) {does : Bytes → Turn} → at < length text → Turns state (get_or text at 0) does
+    → (characters : Bytes)
     → quotation state characters at (drop at text)
     ≡ quote_on (does characters) (λ next longer. quotation next longer (at + 1) (drop (at + 1) text)) (at + 1) (drop (at + 1) text)
 unfolding quotation

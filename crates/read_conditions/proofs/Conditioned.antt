@@ -114,8 +114,8 @@ all_but_quoted = 0 ∷ 1 ∷ 2 ∷ 3 ∷ 5 ∷ 6 ∷ 7 ∷ []
 no-string : (text : Bytes) (k : Token) (place past : ℕ) (three : Bool) → OneOf all_but_quoted (tag_of token.the_type k)
     → Reading.truth_of (token_of text k place past) three ≡ none
 no-string text k place past three =
-    by_kind (λ t. OneOf all_but_quoted (tag_of token.the_type t) → Reading.truth_of (token_of text t place past) three ≡ none) (λ n o. refl) (λ x o. refl)
-    (λ x o. refl)
+    by_kind (λ t. OneOf all_but_quoted (tag_of token.the_type t) → Reading.truth_of (token_of text t place past) three ≡ none)
+    (λ n o. refl) (λ x o. refl) (λ x o. refl)
     (λ o. refl) (λ n o. absurd (miss all_but_quoted 4 tt o)) (λ b o. refl) (λ o. refl) (λ o. refl) k
 
 -- what a token says that says nothing, and that says a truth value
@@ -162,7 +162,8 @@ earlier {q = q} h e a =
 
 abbrev EndAgrees : Bytes → ℕ → ℕ → List ℕ → List ℕ → Bool → Span → Class → CodeParsed → Type 0
 EndAgrees text from words tape tape' is_part x c r =
-    Agrees (ConditionRead text from words tape tape') (condition_end c (subject_of is_part (View.span_text text x)) (stream text Tokens.inside from)) r
+    Agrees (ConditionRead text from words tape tape')
+    (condition_end c (subject_of is_part (View.span_text text x)) (stream text Tokens.inside from)) r
 
 -- what is left of a condition at its closing string
 abbrev with_truth : Class → Subject → Bool → List Tokens.Placed → Parsed Condition
@@ -309,7 +310,8 @@ module _ {text table : List ℕ} {symbols parts from words : ℕ} {t : Code.Plac
         rw ((item-then on.first (rw h.is h.some)).unrolled, h.is)
         (subject-asked text table symbols parts is_part (View.span_text text x) (placed_of text t) _)
 
-    pub on-wrong : {s : OnVariable on is_part x} {answer : Answer} {is : Bool} → OnAsked s (answer_number answer) is → (c : Class) {tape tape' : List ℕ}
+    pub on-wrong : {s : OnVariable on is_part x} {answer : Answer} {is : Bool} → OnAsked s (answer_number answer) is
+        → (c : Class) {tape tape' : List ℕ}
         → not is ≡ true
         → OnAgrees text table symbols parts from words tape tape' c (Stopped (record { answer = answer; place = t.place }))
     on-wrong {s} {answer} a c w =

@@ -69,7 +69,8 @@ abbrev pub truth_said : Bytes → Placed → Option Bool
 truth_said text t = truth_of (token_of text t.token t.place t.past) (eqb t.past (t.place + truth_size))
 
 abbrev pub truth_between : ℕ → Option Bool
-truth_between byte = pick (eqb byte (truth_byte true)) (some true) (pick (eqb byte (truth_byte false)) (some false) none)
+truth_between byte =
+    pick (eqb byte (truth_byte true)) (some true) (pick (eqb byte (truth_byte false)) (some false) none)
 
 -- a token that ends in the text
 pub record Standing (text : Bytes) (t : Placed) : Type 0 where

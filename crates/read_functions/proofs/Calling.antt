@@ -65,7 +65,8 @@ call-is : (argument : ℕ → Reading.Progress → List Tokens.Placed → Parsed
     → Reading.parse_call argument depth so t ts ≡ follow (call_opening depth so.items t ts) (after_name argument (suc depth) so)
 call-is argument depth so t ts =
     rw (name_follow Reading.called_fault ts (λ place n rest. parsed (record { place = place; name = n }) rest) (after_name argument (suc depth) so))
-    (check-follow (Reading.call_fault depth so) t (pass_name Reading.called_fault ts (λ place n rest. parsed (record { place = place; name = n }) rest))
+    (check-follow (Reading.call_fault depth so) t
+    (pass_name Reading.called_fault ts (λ place n rest. parsed (record { place = place; name = n }) rest))
     (after_name argument (suc depth) so))
 
 -- THE READER

@@ -52,7 +52,8 @@ tape-item (part_item x) e = refl
 tape-item no_item e = refl
 
 tape-call : (place : ℕ) (n : Name) (a e : Expression)
-    → expression_tape (then_call place n a e) ≡ (named (call_kind + place) n ++ (expression_tape a ++ tape_word close_kind 0 ∷ [])) ++ expression_tape e
+    → expression_tape (then_call place n a e)
+    ≡ (named (call_kind + place) n ++ (expression_tape a ++ tape_word close_kind 0 ∷ [])) ++ expression_tape e
 unfolding expression_tape
 tape-call place n a e =
     ap (λ (ws : List ℕ). named (call_kind + place) n ++ ws) (sym (append_assoc (expression_tape a) (tape_word close_kind 0 ∷ []) (expression_tape e)))
@@ -237,7 +238,8 @@ module _ {text table : List ℕ} {symbols parts depth : ℕ} {start : Expression
       let b = q.so.behind bound h in
       let i = item-then q.comes g.1 in
       let item = token_item text t in
-      let rest = Reading.parse_expression (b.left - 1) (symbol_names text table symbols) depth (Reading.past_item item (progress_at text table parts s))
+      let rest =
+      Reading.parse_expression (b.left - 1) (symbol_names text table symbols) depth (Reading.past_item item (progress_at text table parts s))
       (stream text Tokens.inside t.past) in
       stops-by refl (stopped-before (at-step b i.unrolled
       ∙ rw (g.1, g.0.fault, check-wrong (answer_number answer) (placed_of text t) (with_first (then_item item) rest) g.0.wrong)))

@@ -275,7 +275,8 @@ all_but_end = 0 ∷ 1 ∷ 2 ∷ 3 ∷ 4 ∷ 5 ∷ 7 ∷ []
 
 pub no_end : (t : Token) → OneOf all_but_end (tag_of token.the_type t) → false ≡ is_end_token t
 no_end =
-    by_kind (λ t. OneOf all_but_end (tag_of token.the_type t) → false ≡ is_end_token t) (λ n o. refl) (λ x o. refl) (λ x o. refl) (λ o. refl) (λ n o. refl)
+    by_kind (λ t. OneOf all_but_end (tag_of token.the_type t) → false ≡ is_end_token t)
+    (λ n o. refl) (λ x o. refl) (λ x o. refl) (λ o. refl) (λ n o. refl)
     (λ b o. refl)
     (λ o. absurd (miss all_but_end 6 tt o)) (λ o. refl)
 

@@ -91,7 +91,8 @@ module _ {text : Bytes} {table : List ℕ} {symbols parts : ℕ} {s : Expression
   many {is = false} e m = rw e
 
   pub variable-many : {item : Item}
-      → (both short (leb (s.items + 1) max_items) ≡ false → Reading.item_fault (symbol_names text table symbols) (progress_at text table parts s) item ≡
+      → (both short (leb (s.items + 1) max_items) ≡ false
+      → Reading.item_fault (symbol_names text table symbols) (progress_at text table parts s) item ≡
       over_limit)
       → max_items ≤ s.items
       → {tape tape' : List ℕ} → JoinsItem text table symbols parts s tape item x.past tape' (Wrong OverLimit)
@@ -185,7 +186,8 @@ module _ {text : Bytes} {table : List ℕ} {symbols parts : ℕ} {s : Expression
     unknown h = after-it ∙ rw (le-ltb (position sought those) (parts - s.passed) (omega (arith, passed, q.found)))
 
     fault-is : {is : Bool} → is_some (coming_after sought those) ≡ is
-        → Reading.item_fault (symbol_names text table symbols) (progress_at text table parts s) (part_item sought) ≡ fault_unless is wrong_later_variable 0
+        → Reading.item_fault (symbol_names text table symbols) (progress_at text table parts s) (part_item sought)
+        ≡ fault_unless is wrong_later_variable 0
     fault-is e = rw (short-enough text x (identifier-inside q.here.1) max_identifier q.brief, few-items q.here q.few, e)
 
     pub part-unknown : max_symbols + parts ≤ r → {tape tape' : List ℕ} →

@@ -1,5 +1,6 @@
 -- The functions of a table while they are read.
-use Rattle.std.specs.Prelude.{ℕ, ◌+◌, ◌-◌, ◌≤◌, ◌<◌, ◌≡◌, Bool, true, false, not, List, [], ◌∷◌, ◌++◌, T, ltb, length, take}
+use Rattle.std.specs.Prelude.{ℕ, ◌+◌, ◌-◌, ◌≤◌, ◌<◌, ◌≡◌, Bool, true, false}
+use Rattle.std.specs.Prelude.{not, List, [], ◌∷◌, ◌++◌, T, ltb, length, take}
 use Rattle.meaning.specs.Choice.{Bytes, Name, pick, both, every}
 use Rattle.meaning.specs.Answers.{over_limit, wrong_name}
 use Rattle.meaning.specs.Names.{is_reserved}
@@ -86,7 +87,8 @@ pub record Opening (text tape heads : List ℕ) (functions words : ℕ) (t : Pla
 
 -- `declared_fault`, by the names declared before
 abbrev pub declared_fault_in : List Name → Name → ℕ
-declared_fault_in names n = length_fault n (fault_unless (both (not (is_reserved n)) (not (member n names))) wrong_name 0)
+declared_fault_in names n =
+    length_fault n (fault_unless (both (not (is_reserved n)) (not (member n names))) wrong_name 0)
 
 -- the fault of a name after so many functions with these names
 abbrev pub name_fault : ℕ → List Name → Name → ℕ

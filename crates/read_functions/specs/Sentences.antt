@@ -3,7 +3,8 @@ use Rattle.std.specs.Prelude.{ℕ, zero, suc, ◌+◌, ◌≤◌, ◌<◌, ◌�
 use Rattle.meaning.specs.Choice.{Bytes, Name, either, every}
 use Rattle.meaning.specs.Answers.{over_limit}
 use Rattle.meaning.specs.Tree.{Sentence}
-use Rattle.tape_layout.specs.Tape.{tape_word, equals_kind, pattern_tape, conditions_tape, expression_tape, sentence_tape}
+use Rattle.tape_layout.specs.Tape.{tape_word, equals_kind, pattern_tape}
+use Rattle.tape_layout.specs.Tape.{conditions_tape, expression_tape, sentence_tape}
 use Rattle.tape_layout.specs.Tape.{sentences_tape}
 use Rattle.meaning.specs.Tokens as Tokens
 use Rattle.meaning.specs.Reading as Reading

@@ -3,7 +3,8 @@ use Rattle.std.specs.Prelude.{ℕ, ◌+◌, ◌≤◌, ◌≡◌, Bool, true, fa
 use Rattle.meaning.specs.Choice.{Bytes, Name, both, every}
 use Rattle.meaning.specs.Tree.{Element}
 use Rattle.meaning.specs.Answers.{not_allowed_here, over_limit, wrong_pattern_variable}
-use Rattle.meaning.specs.Allowed.{max_identifier, max_letters, max_symbols, member, added, symbols_of, parts_of, letters_in}
+use Rattle.meaning.specs.Allowed.{max_identifier, max_letters, max_symbols, member}
+use Rattle.meaning.specs.Allowed.{added, symbols_of, parts_of, letters_in}
 use Rattle.tape_layout.specs.Tape.{pattern_tape}
 use Rattle.meaning.specs.Tokens as Tokens
 use Rattle.meaning.specs.Reading as Reading

@@ -13,7 +13,8 @@ use Rattle.meaning.specs.Choice.{Name, pick, either, or_else, every, same_bytes}
 use Rattle.meaning.specs.Tree.{Expression, end, then_character, then_symbol, then_part, then_call, Sentence, Function, Table}
 use Rattle.meaning.specs.Names.{number_from, is_known}
 use Rattle.meaning.specs.Allowed.{member, names_of}
-use Rattle.tape_layout.specs.Tape.{tape_word, symbol_kind, part_kind, equals_kind, close_kind, next_kind, end_kind, function_kind, call_kind, call_word, named}
+use Rattle.tape_layout.specs.Tape.{tape_word, symbol_kind, part_kind, equals_kind, close_kind, next_kind}
+use Rattle.tape_layout.specs.Tape.{end_kind, function_kind, call_kind, call_word, named}
 use Rattle.tape_layout.specs.Tape.{pattern_tape, conditions_tape, expression_tape, sentence_tape, sentences_tape, function_tape, tape}
 use Rattle.meaning.specs.Reading.{unknown_call, unknown_in_sentences, unknown_in}
 use Rattle.meaning.proofs.Laws.Passing.{every-head, every-tail}

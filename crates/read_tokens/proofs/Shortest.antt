@@ -9,7 +9,8 @@ use lib.Dec.{eqb, ltb}
 use lib.ListN.{length, get_or, drop}
 use Rattle.meaning.specs.Choice.{Bytes, pick, either}
 use Rattle.meaning.specs.Classes.{in_class, digit}
-use Rattle.meaning.specs.Tokens.{Quoting, plain, escaped, coded, Turn, goes_on, closes, breaks, digit_value, turn, Quotation, closed, broken, quote_on}
+use Rattle.meaning.specs.Tokens.{Quoting, plain, escaped, coded, Turn, goes_on, closes}
+use Rattle.meaning.specs.Tokens.{breaks, digit_value, turn, Quotation, closed, broken, quote_on}
 use Rattle.meaning.specs.Tokens.{quotation}
 use Rattle.meaning.proofs.Laws.Choosing.{of_either}
 use Rattle.read_tokens.specs.View.{characters_in, quotation_at}
@@ -101,5 +102,6 @@ three-bytes text place past d h e =
     = here text (suc place) (omega arith) ∙ rw (here text (suc (suc place)) (omega arith))
     in
     rw add-one
-    (one-character (suc place) (get_or text (suc place) 0) (get_or text (suc (suc place)) 0) (drop (suc (suc (suc place))) text) {rest = drop past text}
+    (one-character (suc place) (get_or text (suc place) 0) (get_or text (suc (suc place)) 0)
+    (drop (suc (suc (suc place))) text) {rest = drop past text}
     (sym (ap (quotation plain [] (suc place)) bytes) ∙ e ∙ rw p))

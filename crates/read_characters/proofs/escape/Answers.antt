@@ -11,8 +11,13 @@ use Rattle.read_characters.proofs.escape.Goals as goal
 unlisted : (c : After-is_digit) {is_digit : Bool} → c.is_digit.result ≡ is_digit
     → let a = c.args in Unlisted (get_or a.text.now a.at 0) is_digit
 unlisted c e =
-    let m = c.in_default.in_default-own.rest in
-    record { same = m.0.0.0.1; line = m.0.0.1; tab = m.0.1; end = m.1; class = sym c.is_digit.ensures ∙ e }
+    record {
+      same = λ b. omega arith;
+      line = omega arith;
+      tab = omega arith;
+      end = omega arith;
+      class = sym c.is_digit.ensures ∙ e;
+    }
 
 pub returns-then-text-at : goal.returns-then-text-at
 returns-then-text-at c = stands-end _ _ _ _ c.if-text-at.true

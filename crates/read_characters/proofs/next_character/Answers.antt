@@ -1,5 +1,7 @@
 -- The facts about `next_character` that the check is told.
 use native.Mathlib.Omega.{arith}
+use lib.ListN.{get_or}
+use Rattle.std.proofs.Common.{◌≢◌}
 use borrow.Author.Tests.{ne_eqb}
 use Rattle.meaning.specs.Tokens.{escaped}
 use Rattle.read_characters.proofs.Strings.{stands-given, stands-closed, stands-broken, stands-later, stands-end}
@@ -19,5 +21,8 @@ returns-in-92 c = stands-later _ _ _ _ (omega arith) escaped _ (λ characters. r
 
 pub returns-in_default : goal.returns-in_default
 returns-in_default c =
-    let m = c.in_default.in_default-own.rest in
-    stands-given _ _ _ _ (omega arith) _ (λ characters. rw (ne_eqb _ 39 m.0.0.1, ne_eqb _ 34 m.0.1, ne_eqb _ 92 m.1))
+    let b = get_or c.args.text.now c.args.at 0 in
+    let no_quote : b ≢ 39 = omega arith in
+    let no_double : b ≢ 34 = omega arith in
+    let no_backslash : b ≢ 92 = omega arith in
+    stands-given _ _ _ _ (omega arith) _ (λ characters. rw (ne_eqb b 39 no_quote, ne_eqb b 34 no_double, ne_eqb b 92 no_backslash))

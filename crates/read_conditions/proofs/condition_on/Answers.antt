@@ -1,5 +1,6 @@
 -- The facts about `condition_on` that the check is told.
-use mathlib.Core.Path.{sym, ◌∙◌}
+use mathlib.Core.Bool.{not}
+use mathlib.Core.Path.{sym, ◌∙◌, ap}
 use Rattle.meaning.specs.Tokens.{inside}
 use Rattle.read_tokens.proofs.Stream.{comes}
 use Rattle.answers.specs.Numbers.{answer_number}
@@ -34,13 +35,13 @@ subject_fault-fault-requires c =
 
 pub returns-then-not-is_accepted : goal.returns-then-not-is_accepted
 returns-then-not-is_accepted c =
-    on-wrong (asked (goal.at.returns-then-not-is_accepted c).After-is_accepted) _ c.if-not-is_accepted.true-raw
+    on-wrong (asked (goal.at.returns-then-not-is_accepted c).After-is_accepted) _ (ap not c.if-not-is_accepted.true)
 
 pub condition_end-requires : goal.condition_end-requires
 condition_end-requires c =
-    let b = on-before (asked (goal.at.condition_end-requires c).After-is_accepted) c.if-not-is_accepted.false-raw in
+    let b = on-before (asked (goal.at.condition_end-requires c).After-is_accepted) (ap not c.if-not-is_accepted.false) in
     (b.0, b.1)
 
 pub returns : goal.returns
-returns c = on-reads (asked (goal.at.returns c).After-is_accepted) c.if-not-is_accepted.false-raw _
+returns c = on-reads (asked (goal.at.returns c).After-is_accepted) (ap not c.if-not-is_accepted.false) _
     c.condition_end.ensures

@@ -1,5 +1,6 @@
 -- The facts about `add_part` that the check is told.
-use mathlib.Core.Path.{◌≡◌}
+use mathlib.Core.Bool.{not}
+use mathlib.Core.Path.{◌≡◌, ap}
 use native.Mathlib.Omega.{arith}
 use Rattle.read_bookkeeping.proofs.Choosing.{no-fault-here}
 use Rattle.read_patterns.proofs.Adding.{part_fault, part-few, part-taken}
@@ -7,7 +8,7 @@ use Rattle.read_patterns.proofs.add_part.Goals.{Else-not-is_accepted}
 use Rattle.read_patterns.proofs.add_part.Goals as goal
 
 right : (c : Else-not-is_accepted) → let p = c.requires in part_fault p.0 p.1 ≡ 0
-right c = no-fault-here c.part_fault-fault.ensures c.is_accepted.ensures c.if-not-is_accepted.false-raw
+right c = no-fault-here c.part_fault-fault.ensures c.is_accepted.ensures (ap not c.if-not-is_accepted.false)
 
 pub bounds-table-last : goal.bounds-table-last
 bounds-table-last c =

@@ -1,4 +1,6 @@
 -- The facts about `expressions::open_call` that the check is told.
+use mathlib.Core.Path.{ap}
+use mathlib.Core.Bool.{not}
 use Rattle.meaning.specs.Tokens as Tokens
 use Rattle.read_tokens.proofs.Stream.{comes}
 use Rattle.read_bookkeeping.proofs.Choosing.{no-fault-here, a-fault-here}
@@ -36,14 +38,14 @@ returns-then-not-is_accepted c =
     let name : CallName call c.in-Name.name = record { is = c.in-Name.is } in
     let f = c.called_fault-fault.ensures in
     rw c.fault_at-then-not-is_accepted.ensures
-    (call-misnamed name f (a-fault-here f c.is_accepted.ensures c.if-not-is_accepted.true-raw))
+    (call-misnamed name f (a-fault-here f c.is_accepted.ensures (ap not c.if-not-is_accepted.true)))
 
 pub put_call-words-requires : goal.put_call-words-requires
 put_call-words-requires c =
     let call = call-here (goal.at.put_call-words-requires c).After-lex-t in
     let name : CallName call c.in-Name.name = record { is = c.in-Name.is } in
     let sound : CallNamed name =
-    record { sound = no-fault-here c.called_fault-fault.ensures c.is_accepted.ensures c.if-not-is_accepted.false-raw } in
+    record { sound = no-fault-here c.called_fault-fault.ensures c.is_accepted.ensures (ap not c.if-not-is_accepted.false) } in
     name-room sound
 
 pub returns : goal.returns
@@ -51,5 +53,5 @@ returns c =
     let call = call-here (goal.at.returns c).After-lex-t in
     let name : CallName call c.in-Name.name = record { is = c.in-Name.is } in
     let sound : CallNamed name =
-    record { sound = no-fault-here c.called_fault-fault.ensures c.is_accepted.ensures c.if-not-is_accepted.false-raw } in
+    record { sound = no-fault-here c.called_fault-fault.ensures c.is_accepted.ensures (ap not c.if-not-is_accepted.false) } in
     call_opens sound c.put_call-words.ensures

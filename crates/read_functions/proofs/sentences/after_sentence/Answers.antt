@@ -1,6 +1,5 @@
 -- The facts about `sentences::after_sentence` that the check is told.
 use mathlib.Core.Path.{sym, ◌∙◌}
-use borrow.Author.Tests.{not-true}
 use Rattle.meaning.specs.Tokens.{inside, semicolon}
 use Rattle.read_tokens.specs.View.{Comes}
 use Rattle.read_bookkeeping.specs.Tokened.{Taken}
@@ -32,7 +31,7 @@ returns-then-is_sign c =
 pub returns-then-not-is_sign : goal.returns-then-not-is_sign
 returns-then-not-is_sign c =
     follows_nothing (token-here (goal.at.returns-then-not-is_sign c).After-lex-t) (sym c.is_sign.ensures ∙ c.if-is_sign.false)
-    (sym c.is_sign-2.ensures ∙ not-true _ c.if-not-is_sign.true-raw) c.refuse.ensures
+    (sym c.is_sign-2.ensures ∙ c.if-not-is_sign.true) c.refuse.ensures
 
 pub returns-then-is_sign-2 : goal.returns-then-is_sign-2
 returns-then-is_sign-2 c =

@@ -1,7 +1,6 @@
 -- The facts about `sentences::next_sentence` that the check is told.
 use mathlib.Core.Path.{◌≡◌, sym, ◌∙◌}
 use mathlib.Core.Bool.{true}
-use borrow.Author.Tests.{not-true, not-false}
 use Rattle.meaning.specs.Tokens.{inside}
 use Rattle.read_tokens.specs.View.{Comes}
 use Rattle.read_functions.specs.Sentences.{begins_sentence}
@@ -15,12 +14,12 @@ token-here : (c : After-lex-t) → let a = c.args in Comes a.text.now inside a.f
 token-here c = comes _ inside _ _ c.requires.inside c.lex-t.ensures
 
 begins-here : (c : Else-not-begins) → begins_sentence c.lex-t.result.token ≡ true
-begins-here c = sym c.begins.ensures ∙ not-false _ c.if-not-begins.false-raw
+begins-here c = sym c.begins.ensures ∙ c.if-not-begins.false
 
 pub returns-then-not-begins : goal.returns-then-not-begins
 returns-then-not-begins c =
     first-refused _ _ (token-here (goal.at.returns-then-not-begins c).After-lex-t)
-    (sym c.begins.ensures ∙ not-true _ c.if-not-begins.true-raw) c.refuse.ensures
+    (sym c.begins.ensures ∙ c.if-not-begins.true) c.refuse.ensures
 
 pub returns-then-left-eq0 : goal.returns-then-left-eq0
 returns-then-left-eq0 c =
