@@ -20,7 +20,7 @@ use Rattle.meaning.specs.Leaving.{room_of}
 use Rattle.run_actions.specs.declared.registers.Registers.{Registers}
 use Rattle.answers.specs.declared.Ending.TheVariants.{Finished, NoSentenceFits}
 use Rattle.run_actions.specs.declared.registers.Next.TheVariants.{Done, Stopped}
-use Rattle.run_actions.specs.States.{Memory, memory, counts_in, counted_in, ledger_of, memory_room, Outcomes}
+use Rattle.run_actions.specs.States.{Memory, memory, counts_in, counted_in, ledger_of, memory_room}
 use Rattle.run_actions.proofs.Laws.Frames.{counts-counted}
 use Rattle.run_applications.specs.Waiting.{count_in, functions_in, entering}
 use Rattle.run_applications.proofs.Laws.Waiting.{entering-paid}
