@@ -126,7 +126,8 @@ module _ (few rest : List ℕ) (values all : Bytes) (begins : take (length value
 
     grown-outcome : outcome_from (memory_room (memory input output «record» few values)) allowance words (Onward g)
         (memory input output «record» few values) ≡
-        outcome_from (memory_room (memory input output «record» few values)) allowance words (Onward g) (memory input output «record» (few ++ rest) all)
+        outcome_from (memory_room (memory input output «record» few values)) allowance words (Onward g)
+        (memory input output «record» (few ++ rest) all)
     grown-outcome =
         rw (
           grown-counts,
