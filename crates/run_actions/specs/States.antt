@@ -1,7 +1,8 @@
 -- The registers and the lent cells as the specification's state: stack in from p on, the selected cells, stack out up
 -- to r, what was counted, and what a frame keeps; and what it means that a function implements an action of the
 -- machine.
-use Rattle.std.specs.Prelude.{ℕ, suc, pred, ◌+◌, ◌*◌, ◌-◌, ◌≤◌, ◌<◌, ◌≡◌, List, ◌++◌, Bool, true, false, ltb, length, get_or, take, drop, set}
+use Rattle.std.specs.Prelude.{ℕ, suc, pred, ◌+◌, ◌*◌, ◌-◌, ◌≤◌, ◌<◌, ◌≡◌, Bool, true, false, ltb}
+use Rattle.std.specs.Prelude.{List, ◌++◌, length, get_or, take, drop, set}
 use Rattle.meaning.specs.Choice.{Bytes, both, pick}
 use Rattle.meaning.specs.Outcome.{max_counted, Outcome, done, stop}
 use Rattle.meaning.specs.Instructions.{Action, Code}

@@ -11,8 +11,8 @@ use Rattle.meaning.specs.Packing.{Words, unpack_stores, unpack_actions}
 use Rattle.run_actions.specs.declared.registers.Registers.{Registers}
 use Rattle.run_actions.specs.declared.registers.Next.{Next}
 use Rattle.run_actions.specs.declared.registers.Next.TheVariants.{Onward, Done, Stopped, Deeper}
-use Rattle.run_actions.specs.States.{crowded_at, Memory, Held, CountsWithin, stacks_of, ledger_of, memory_room, Outcomes}
-use Rattle.run_actions.specs.States.{WrittenWithin, WithinRoom}
+use Rattle.run_actions.specs.States.{crowded_at, Memory, Held, CountsWithin, stacks_of, ledger_of, memory_room}
+use Rattle.run_actions.specs.States.{Outcomes, WrittenWithin, WithinRoom}
 use Rattle.run_applications.specs.Waiting.{functions_in, entering, returning, outcome_from, Waits, outcome_of_action}
 use Rattle.run_applications.specs.Waiting.{measure_below, measure}
 
@@ -82,7 +82,8 @@ SimulatesApplication words allowance number g m next n =
     Invariant allowance g m →
     SimulatesBelow words allowance
     (returning (memory_room m) allowance words g m
-    (ran_paid (lent (memory_room m)) (functions_in words) (entering (memory_room m) allowance words) (suc g.frame) number
+    (ran_paid (lent (memory_room m)) (functions_in words) (entering (memory_room m) allowance words) (suc g.frame)
+    number
     (stacks_of g m) l (pay number l.tally)))
     (suc (measure_below (length words) allowance g m))
     g m next n

@@ -89,7 +89,8 @@ module _ (frames : List ℕ) (k : ℕ) (there : HasFrame k frames) where
       )
 
 pub word_kept : (frames : List ℕ) (k i j v : ℕ) → (i ≡ j → ⊥) → frame_word k j (with_word k i v frames) ≡ frame_word k j frames
-word_kept frames k i j v ne = rw (words-stored frames k i v) (get_or-set_other (words_in frames) (24 * k + i) (24 * k + j) v 0 (λ e. ne (omega arith)))
+word_kept frames k i j v ne =
+    rw (words-stored frames k i v) (get_or-set_other (words_in frames) (24 * k + i) (24 * k + j) v 0 (λ e. ne (omega arith)))
 
 -- a store past a frame's counts leaves what holds of them
 pub held-past : (frames : List ℕ) (k i v : ℕ) → 5 < i → Held k frames → Held k (with_word k i v frames)

@@ -23,7 +23,8 @@ use Rattle.run_actions.specs.declared.registers.Next.TheVariants.{Onward, Stoppe
 use Rattle.run_code_places.specs.declared.CodePlace.{CodePlace}
 use Rattle.run_applications.specs.declared.Stored.TheVariants.{Before, Wrong}
 use Rattle.answers.specs.Numbers.{ending_number}
-use Rattle.run_actions.specs.States.{Memory, memory, frame_word, local_at, Held, counts_in, ledger_of, memory_room, Outcomes, HasFrame, HasValues, words_in}
+use Rattle.run_actions.specs.States.{Memory, memory, frame_word, local_at, Held, counts_in, ledger_of, memory_room, Outcomes}
+use Rattle.run_actions.specs.States.{HasFrame, HasValues, words_in}
 use Rattle.run_actions.specs.States.{words_below, with_word, begun}
 use Rattle.run_actions.proofs.Laws.Frames.{word_set, word_kept, waiting_kept, counts-kept}
 use Rattle.run_applications.specs.Storing.{Stores}

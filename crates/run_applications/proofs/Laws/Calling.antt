@@ -24,7 +24,8 @@ use Rattle.run_actions.specs.declared.registers.Registers.{Registers}
 use Rattle.answers.specs.declared.Ending.TheVariants.{AllowanceSpent, FramesFull, NoInstruction, NoSentenceFits}
 use Rattle.run_actions.specs.declared.registers.Next.{Next}
 use Rattle.run_actions.specs.declared.registers.Next.TheVariants.{Onward, Stopped}
-use Rattle.run_actions.specs.States.{Memory, memory, frame_word, counts_in, counted_in, local_at, local_of, Held, stacks_of, ledger_of, memory_room, Outcomes}
+use Rattle.run_actions.specs.States.{Memory, memory, frame_word, counts_in, counted_in, local_at, local_of, Held}
+use Rattle.run_actions.specs.States.{stacks_of, ledger_of, memory_room, Outcomes}
 use Rattle.run_actions.specs.States.{HasFrame, crowded_at, words_for, words_in, words_below, with_word, calling_from}
 use Rattle.run_actions.proofs.Laws.Frames.{words-stored, stored-length, stored_there, word_set, word_kept, held-past, waiting_kept, counts-kept}
 use Rattle.run_actions.proofs.Laws.Frames.{counts-counted, counted_words, counted-length, counted-within}

@@ -20,7 +20,8 @@ use Rattle.run_applications.specs.Waiting.{called_in, recovered_by}
 -- A FRAME DEPENDS ON ITS OWN WORDS AND VALUES ALONE
 
 -- a frame with the same words up to its counts holds the same
-pub same-held : (k : ℕ) (frames frames' : List ℕ) → Held k frames → ((i : ℕ) → i ≤ 5 → frame_word k i frames ≡ frame_word k i frames') → Held k frames'
+pub same-held : (k : ℕ) (frames frames' : List ℕ) → Held k frames → ((i : ℕ) → i ≤ 5 → frame_word k i frames ≡ frame_word k i frames') →
+    Held k frames'
 same-held k frames frames' held e =
     record {
       null = rw (← (e 0 (omega arith))) held.null;

@@ -18,7 +18,8 @@ returns-then-allowed-g c = record {
 pub returns-then-frame-ge-FRAMES : goal.returns-then-frame-ge-FRAMES
 returns-then-frame-ge-FRAMES c = record {
   simulates =
-      λ input output «record» values. call-full _ _ c.args.number _ _ c.requires.number_value c.if-allowed-g.false (omega (arith, c.if-frame-ge-FRAMES.true));
+      λ input output «record» values. call-full _ _ c.args.number _ _ c.requires.number_value c.if-allowed-g.false
+      (omega (arith, c.if-frame-ge-FRAMES.true));
 }
 
 pub returns : goal.returns

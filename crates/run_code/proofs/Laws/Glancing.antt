@@ -20,7 +20,7 @@ use Rattle.meaning.specs.Leaving.{room_of}
 use Rattle.run_actions.specs.declared.registers.Registers.{Registers}
 use Rattle.answers.specs.declared.Ending.TheVariants.{Finished, NoSentenceFits}
 use Rattle.run_actions.specs.declared.registers.Next.TheVariants.{Done, Stopped}
-use Rattle.run_actions.specs.States.{Memory, memory, counts_in, counted_in, ledger_of, memory_room, Outcomes}
+use Rattle.run_actions.specs.States.{Memory, memory, counts_in, counted_in, ledger_of, memory_room}
 use Rattle.run_actions.proofs.Laws.Frames.{counts-counted}
 use Rattle.run_applications.specs.Waiting.{count_in, functions_in, entering}
 use Rattle.run_applications.proofs.Laws.Waiting.{entering-paid}
@@ -67,7 +67,8 @@ module _ (words : Words) (start : ℕ) (text input output «record» : Bytes) (f
   chosen-runs : (allowance : ℕ) (choice : Choice) → 0 < allowance →
       choose_from (unpack_sentences 0 (drop (get_or words start 0) words)) text ≡ choice →
       run_under (lent (memory_room Memory-then)) (functions_in words) start text allowance tt ≡
-      ran_choice (lent (memory_room Memory-then)) (functions_in words) (entering (memory_room Memory-then) allowance words) 1 start choice (loaded text)
+      ran_choice (lent (memory_room Memory-then)) (functions_in words) (entering (memory_room Memory-then) allowance words) 1 start choice
+      (loaded text)
       (ledger_of allowance (Ended (length input)) Memory-then)
   chosen-runs zero choice h e = absurd (omega arith)
   chosen-runs (suc n) choice h e =

@@ -1,15 +1,13 @@
 -- The room for all frames, which begins as the one lent: a run goes on there as it would have gone on.
-use Prim.Native.Nat.{ℕ, suc, ◌+◌, ◌*◌, ◌≤◌, ◌<◌}
+use Prim.Native.Nat.{ℕ, suc, ◌+◌, ◌*◌, ◌≤◌}
 use native.Mathlib.Omega.{arith}
 use mathlib.Core.Path.{◌≡◌, refl, sym, ap, subst, ◌∙◌}
 use mathlib.Core.Bool.{Bool, true, false}
-use mathlib.Core.Logic.{◌⊎◌, inl, inr}
 use mathlib.Core.List.{List, ◌++◌}
-use lib.Dec.{T, eqb, ltb}
+use lib.Dec.{T, ltb}
 use lib.ListN.{length, take, drop, length-drop}
 use lib.Seq.{paste, take-paste, take-append-le, drop-append-le, take-take, take-length, take_at, length-take-le}
 use borrow.Author.Tests.{ltb-true}
-use denote.Enum.Declared.{tag_of}
 use Rattle.meaning.specs.Choice.{Bytes, both}
 use Rattle.meaning.specs.Outcome.{max_counted}
 use Rattle.meaning.specs.Packing.{Words}
@@ -17,10 +15,9 @@ use Rattle.meaning.specs.Leaving.{max_frames}
 use Rattle.run_actions.specs.declared.registers.Registers.{Registers}
 use Rattle.run_actions.specs.declared.registers.Next.{Next}
 use Rattle.run_actions.specs.declared.registers.Next.TheVariants.{Onward, Done, Stopped, Deeper}
-use Rattle.run_actions.specs.contracts.registers.Next as next-declared
-use Rattle.run_actions.specs.States.{Memory, memory, words_for, values_for, crowded_at, words_below, counts_in, memory_room}
+use Rattle.run_actions.specs.States.{Memory, memory, words_for, values_for, words_below, counts_in, memory_room}
 use Rattle.run_applications.specs.Waiting.{outcome_from}
-use Rattle.run_applications.specs.Simulation.{Invariant, NextInvariant, registers_in, Simulates}
+use Rattle.run_applications.specs.Simulation.{Invariant, NextInvariant, registers_in}
 use Rattle.run_turns.specs.Turns.{IsOver}
 use Rattle.run_code.specs.Following.{SimulatesUntil, HasEnded}
 use Rattle.run_applications.proofs.Laws.Simulation.{simulates-on}
@@ -46,17 +43,6 @@ has_ended allowance (Deeper g) n sized over invariant =
 pub never-deeper : (allowance : ℕ) {last : Next} {g : Registers} (n : Memory) → last ≡ Deeper g → length n.frames ≡ words_for max_frames →
     NextInvariant allowance last n → ⊥
 never-deeper allowance {last} {g} n e sized invariant = has_ended allowance (Deeper g) n sized tt (rw e at invariant)
-
--- nor does one that goes on nowhere else
-pub ended-tagged : (last : Next) → (tag_of next-declared.the_type last ≡ 0) ⊎
-    ((tag_of next-declared.the_type last ≡ 1) ⊎ (tag_of next-declared.the_type last ≡ 2)) →
-    IsOver last → HasEnded last
-ended-tagged (Onward g) e over = absurd over
-ended-tagged (Done g) e over = tt
-ended-tagged (Stopped g ending function) e over = tt
-ended-tagged (Deeper g) (inl e) over = absurd (subst (λ (k : ℕ). T (eqb 3 k)) e tt)
-ended-tagged (Deeper g) (inr (inl e)) over = absurd (subst (λ (k : ℕ). T (eqb 3 k)) e tt)
-ended-tagged (Deeper g) (inr (inr e)) over = absurd (subst (λ (k : ℕ). T (eqb 3 k)) e tt)
 
 -- where a run goes on deeper, it is under way, and what follows from there follows from its start
 pub crowded-invariant : {allowance : ℕ} {last : Next} {g : Registers} {n : Memory} → last ≡ Deeper g → NextInvariant allowance last n →
@@ -140,7 +126,8 @@ module _ (few rest : List ℕ) (values all : Bytes) (begins : take (length value
 
     grown-outcome : outcome_from (memory_room (memory input output «record» few values)) allowance words (Onward g)
         (memory input output «record» few values) ≡
-        outcome_from (memory_room (memory input output «record» few values)) allowance words (Onward g) (memory input output «record» (few ++ rest) all)
+        outcome_from (memory_room (memory input output «record» few values)) allowance words (Onward g)
+        (memory input output «record» (few ++ rest) all)
     grown-outcome =
         rw (
           grown-counts,

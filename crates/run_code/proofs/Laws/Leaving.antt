@@ -183,7 +183,8 @@ module _ (text input input' : Bytes) (l : Loaded text input input') where
     abbrev pub Whole : Outcomes
     Whole = run_under (lent (memory_room Start)) (functions_in words) start text allowance tt
 
-    pub invariant-start : length frames ≡ words_for first_frames → length values ≡ values_for first_frames → counts_in frames ≡ uncounted → Held 0 frames →
+    pub invariant-start : length frames ≡ words_for first_frames → length values ≡ values_for first_frames → counts_in frames ≡ uncounted →
+        Held 0 frames →
         Invariant allowance Beginning Start
     invariant-start f v none empty =
         record {
