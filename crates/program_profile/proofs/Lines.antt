@@ -2,15 +2,14 @@
 use Prim.Native.Nat.{ℕ, suc, ◌+◌, ◌*◌, ◌≤◌, ◌<◌}
 use native.Mathlib.Omega.{arith}
 use native.Mathlib.Numerals.{add-one}
-use mathlib.Core.Path.{◌≡◌, refl, sym, ◌∙◌, ap}
-use mathlib.Core.List.{List, [], ◌∷◌, ◌++◌}
+use mathlib.Core.Path.{◌≡◌, refl, ◌∙◌, ap}
+use mathlib.Core.List.{List, [], ◌++◌}
 use lib.ListN.{length, drop, get_or, length-append, drop_of_length-le}
-use lib.Seq.{sets, length-sets}
+use lib.Seq.{sets}
 use Rattle.meaning.specs.Choice.{Bytes}
 use Rattle.meaning.proofs.Laws.Remaining.{at_place}
 use Rattle.meaning.proofs.Laws.Storing.{sets-append}
 use Rattle.tape_words.specs.Words.{head_name, head_names}
-use Rattle.byte_writing.specs.Put.{Put}
 use Rattle.byte_writing.proofs.Writing.{put-length}
 use Rattle.program_printing.specs.Texts.{profile_line, profile_lines, PutAtMost}
 use Rattle.program_profile.specs.Profiles.{line_cells}
