@@ -43,7 +43,8 @@ lent_cells = cells lent_bytes lent_bytes lent_bytes
 
 abbrev pub printed : Bytes → Bytes → Bytes
 printed table text =
-    run_text (names_read (read table)) (table_run (read table) code_words start_function text lent_cells program_allowance)
+    run_text (names_read (read table))
+    (table_run (read table) code_words start_function text lent_cells program_allowance)
 
 -- what is printed is told by a report, with the emissions at the front of the record, the result at the front of out,
 -- and the counts

@@ -37,7 +37,8 @@ result_text answer function steps emissions text =
 -- 02, T-01: "After the result the program prints a line for each function in declaration order, with number, name and
 -- applications"
 abbrev pub profile_line : ℕ → Name → ℕ → Bytes
-profile_line number name applications = number_then number space ++ (name ++ (space ∷ number_then applications line_feed))
+profile_line number name applications =
+    number_then number space ++ (name ++ (space ∷ number_then applications line_feed))
 
 -- the lines of functions numbered on after `before`, with as many counts
 unfoldable pub profile_lines : ℕ → List Name → List ℕ → Bytes
