@@ -1,6 +1,5 @@
 -- Laws of what the readers share.
 pub mod Choosing
-pub mod Tags
 pub mod Tokening
 pub mod Spelling
 pub mod Finding
