@@ -7,4 +7,4 @@ use Rattle.program.proofs.read_input.Goals as goal
 pub returns : goal.returns
 returns g c =
     limited (g.R.Read.remaining c.args.reader) (cells_each + 1) c.read_to_end.new.buf.items
-    (rw (c.new-bytes.ensures.items, c.take.ensures.limit, c.take.ensures.inner) at c.in_ok-read_to_end.ensures.bytes)
+    (rw (c.new-input.ensures.items, c.take.ensures.limit, c.take.ensures.inner) at c.in_ok-read_to_end.ensures.bytes)
