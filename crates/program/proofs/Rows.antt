@@ -2,7 +2,6 @@
 use Prim.Native.String.{String}
 use mathlib.Core.Path.{◌≡◌, refl}
 use mathlib.Core.List.{List, [], ◌∷◌, map}
-use Rattle.meaning.specs.Choice.{Bytes}
 use Rattle.meaning.proofs.Rows.Read.{bytes, hold}
 use Rattle.meaning.proofs.Rows.Computing.{computing}
 use Rattle.program_printing.specs.Texts.{numeral_of, profile_lines}

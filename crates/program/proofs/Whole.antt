@@ -1,18 +1,15 @@
 -- A byte more than a table or a text may have is as good as all of them.
-use Rattle.std.proofs.Common.{ℕ, ◌≡◌, ◌+◌, ◌<◌, Bool, true, false, List, Option, None, Some, Result, Ok, Err}
+use Rattle.std.proofs.Common.{ℕ, ◌≡◌, ◌+◌, ◌<◌, Bool, true, false, Option, None, Some, Result, Ok, Err}
 use Rattle.std.proofs.Common.{IfSome, OnOk, OnErr, length, take, refl, subst, arith}
 use Rattle.std.proofs.lemmas.List.{length-replicate, length-take-le, take_all}
 use Rattle.std.proofs.lemmas.Bool.{leb-true, leb-false, lt-leb}
 use lib.Dec.{leb}
-use Rattle.meaning.specs.Choice.{Bytes, pick}
+use Rattle.meaning.specs.Choice.{Bytes}
 use Rattle.meaning.specs.Tree.{Table}
 use Rattle.meaning.specs.Allowed.{max_table}
 use Rattle.meaning.specs.Reading.{Read, accepted, refused, read}
-use Rattle.meaning.specs.Translation.{translate}
-use Rattle.meaning.specs.Packing.{pack}
-use Rattle.meaning.specs.Answers.{buffer_too_short}
 use Rattle.meaning.specs.Leaving.{Cells}
-use Rattle.engine.specs.TableRuns.{TableRun, table_leaving, with_code, without_code, table_run}
+use Rattle.engine.specs.TableRuns.{table_leaving, table_run}
 use Rattle.program.specs.Printed.{lent_bytes, cells_each, lent_cells, code_words, start_function, program_allowance, printed}
 
 lent_length : length lent_bytes ≡ cells_each
