@@ -1,4 +1,5 @@
 -- The facts about `nested_call` that the check is told.
+use native.Mathlib.Omega.{arith}
 use mathlib.Core.Path.{refl, sym, ◌∙◌, ap}
 use Rattle.tape_flatness.specs.Scanned.{place_of, out_of_calls}
 use Rattle.tape_flatness.proofs.Passing.{outer-stays, scan-ends}
@@ -9,7 +10,7 @@ use Rattle.tape_flatness.proofs.nested_call.Goals as goal
 pub returns-then-settled : goal.returns-then-settled
 returns-then-settled c =
     let rest = c.settled.ensures c.if-settled.true in
-    c.place_of.ensures ∙ ap place_of (sym (rest-settled _ c.if-leftmost-ne0.true _ _ rest) ∙ c.loop-i.invariant)
+    c.place_of.ensures ∙ ap place_of (sym (rest-settled _ (λ none. omega arith) _ _ rest) ∙ c.loop-i.invariant)
 
 pub loop-i-preserved : goal.loop-i-preserved
 loop-i-preserved c =

@@ -16,5 +16,5 @@ loop-k-preserved c =
     let args = c.args in (
       omega arith,
       short-goes args.tape.now args.end c.loop-k.k c.loop-k.invariant.1 (omega arith) c.word_inside-word.ensures.0
-          c.if-word-ge-CLOSE_WORD.false,
+          (omega arith),
     )

@@ -1,4 +1,5 @@
 -- The facts about `expressions::open_call` that the check is told.
+use native.Mathlib.Omega.{arith}
 use mathlib.Core.Path.{ap}
 use mathlib.Core.Bool.{not}
 use Rattle.meaning.specs.Tokens as Tokens
@@ -17,7 +18,7 @@ call-here c =
     record {
       ready = pre.0;
       after = pre.1;
-      shallow = c.if-depth-ge-MAX_NESTING.false;
+      shallow = omega arith;
       few = c.if-s-ge-MAX_ITEMS.false;
       comes = comes _ Tokens.naming _ _ pre.0.inside c.lex-t.ensures;
     }

@@ -1,6 +1,6 @@
 -- The facts about `functions::function` that the check is told.
-use mathlib.Core.Bool.{not}
-use mathlib.Core.Path.{refl, ap}
+use borrow.Author.Rules.{rules}
+use mathlib.Core.Path.{refl}
 use Rattle.read_bookkeeping.proofs.Choosing.{no-fault-here}
 use Rattle.read_functions.proofs.Functioned.{NameCopied}
 use Rattle.read_functions.proofs.Functioned.{function-known, function-reads}
@@ -15,7 +15,7 @@ copied-here : (c : After-put_bytes)
 copied-here c =
     record {
       comes = record { opening = c.requires; is = c.in-Name.is; few = c.if-functions-ge-MAX_FUNCTIONS.false };
-      callable = no-fault-here c.called_fault-fault.ensures c.is_accepted.ensures (ap not c.if-not-is_accepted.false);
+      callable = no-fault-here c.called_fault-fault.ensures c.is_accepted.ensures (search rules);
       to = _;
       wrote = c.put_bytes.ensures.0;
     }
