@@ -1,7 +1,7 @@
 // The program: a table and a text in, what the run of the table's code answers out.
 #![tactic(auto)]
 
-ghost use Rattle.std.specs.Prelude.{◌≡◌, ◌+◌, IfOk, IfSome, OnErr, OnOk, length, take};
+ghost use Rattle.std.specs.Prelude.{◌≡◌, ◌+◌, ◌≤◌, IfOk, IfSome, OnErr, OnOk, length, take};
 ghost use Rattle.std.specs.Io.KnownBytes.{Appends};
 ghost use Rattle.program_printing.specs.Texts.{Prints};
 ghost use Rattle.program.specs.Printed.{code_words, cells_each, lent_bytes, printed, Shows};
@@ -11,7 +11,6 @@ use answers::is_refusal;
 use engine::{COUNTED, Report};
 use program_printing::{put_refusal, put_result};
 use program_profile::put_profile;
-use std::alloc::Global;
 use std::io::{ErrorKind, Read, Write};
 use std::rt::Files;
 use std::{fs, io};
@@ -42,6 +41,12 @@ fn cell_room() -> [u8; CELLS]
     ensures { result ≡ lent_bytes }
 {
     [0u8; CELLS]
+}
+
+fn input_room() -> [u8; INPUT_BYTES]
+    ensures { length result ≡ cells_each + 1 }
+{
+    [0u8; INPUT_BYTES]
 }
 
 fn output_room() -> [u8; OUTPUT_BYTES] {
@@ -108,14 +113,28 @@ pub fn respond(table: &[u8], text: &[u8], out: &mut [u8; OUTPUT_BYTES]) -> usize
     put_profile(table, &counts, steps, out, profile)
 }
 
-// The bytes of a table or of a text, up to one more than either may have.
-fn read_input<R: Read + Drop>(alloc: Global, reader: R) -> io::Result<Vec<u8>>
-    ensures { IfOk result (λ input. IfSome (R.remaining reader)
-        (λ bytes. input.items ≡ take (cells_each + 1) bytes)) }
+// Fills the buffer from a reader, up to its end or to the reader's. Handed back: how many bytes were read.
+fn read_input<R: Read>(reader: &mut R, buffer: &mut [u8]) -> io::Result<usize>
+    ensures within { IfOk result (λ n. n ≤ length buffer.new) }
+    ensures bytes { IfOk result (λ n. IfSome (R.remaining reader.old)
+        (λ bytes. take n buffer.new ≡ take (length buffer.old) bytes)) }
 {
-    let mut input = Vec::new(alloc);
-    reader.take(INPUT_BYTES as u64).read_to_end(&mut input)?;
-    Ok(input)
+    let mut count = 0;
+    for _ in 0..u64::MAX {
+        if count >= buffer.len() {
+            return Ok(count);
+        }
+        match reader.read(&mut buffer[count..]) {
+            Ok(0) => return Ok(count),
+            Ok(more) => count += more,
+            Err(e) => {
+                if e.kind() != ErrorKind::Interrupted {
+                    return Err(e);
+                }
+            }
+        }
+    }
+    Err(io::Error::from(ErrorKind::Interrupted))
 }
 
 // Writes the bytes one after another. After an error the first of them may have been written.
@@ -156,27 +175,29 @@ fn write_printed<W: Write>(table: &[u8], text: &[u8], output: &mut W) -> io::Res
 }
 
 // Reads a table and a text to their ends, and writes what is printed for them.
-pub fn write_answer<T: Read + Drop, I: Read + Drop, W: Write>(
-    alloc: Global,
-    table: T,
-    text: I,
+pub fn write_answer<T: Read, I: Read, W: Write>(
+    table: &mut T,
+    text: &mut I,
     output: &mut W,
 ) -> io::Result<()>
-    ensures ok { OnOk result (IfSome (T.remaining table) (λ t. IfSome (I.remaining text)
+    ensures ok { OnOk result (IfSome (T.remaining table.old) (λ t. IfSome (I.remaining text.old)
         (λ x. Appends (W.contents output.old) (W.contents output.new) (printed t x)))) }
-    ensures err { OnErr result (IfSome (T.remaining table) (λ t. IfSome (I.remaining text)
+    ensures err { OnErr result (IfSome (T.remaining table.old) (λ t. IfSome (I.remaining text.old)
         (λ x. AppendsFront (W.contents output.old) (W.contents output.new) (printed t x)))) }
 {
-    let table = read_input(alloc, table)?;
-    let text = read_input(alloc, text)?;
-    write_printed(&table, &text, output)
+    let mut table_room = input_room();
+    let mut text_room = input_room();
+    let size = read_input(table, &mut table_room)?;
+    let length = read_input(text, &mut text_room)?;
+    write_printed(&table_room[..size], &text_room[..length], output)
 }
 
 // `table.rf` of the current folder on standard input. A table that can't be opened counts as empty.
-pub fn run_program<R: Files + Input + Print + AllocGlobal>(rt: &R) -> io::Result<()> {
+pub fn run_program<R: Files + Input + Print>(rt: &R) -> io::Result<()> {
+    let mut text = rt.reader();
     let mut output = io::writer(rt);
     match fs::open(rt, "table.rf") {
-        Ok(table) => write_answer(rt.alloc(), table, rt.reader(), &mut output),
-        Err(_) => write_answer(rt.alloc(), io::empty(), rt.reader(), &mut output),
+        Ok(mut table) => write_answer(&mut table, &mut text, &mut output),
+        Err(_) => write_answer(&mut io::empty(), &mut text, &mut output),
     }
 }
