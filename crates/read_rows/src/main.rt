@@ -5,7 +5,7 @@
 #![tactic(auto)]
 
 use std::io;
-use std::io::{BufReader, Read};
+use std::io::Read;
 
 // The bytes of input that are read, and those that a line may have.
 const INPUT_BYTES: u64 = 65536;
@@ -98,8 +98,8 @@ fn step(rt: &impl Print, text: &mut [u8; TEXT_BYTES], line: Line, byte: u8) -> i
     })
 }
 
-fn rows<R: Input + Print + AllocGlobal>(rt: &R) -> io::Result<()> {
-    let input = BufReader::new(rt.alloc(), rt.reader().take(INPUT_BYTES))?;
+fn rows<R: Input + Print>(rt: &R) -> io::Result<()> {
+    let input = rt.reader().take(INPUT_BYTES);
     let mut text = text_room();
     let mut line = Line { length: 0, mark: 0 };
     for byte in input.bytes() {
