@@ -1,3 +1,3 @@
--- Laws of answers, and worked rows.
-pub mod Accepted
+-- Laws of refusals, and worked rows.
+pub mod Refused
 pub mod Rows

@@ -1,89 +1,64 @@
-// The engine's answers: what refuses a table text, how a run ends, 01's number of each, and which numbers refuse a
-// table.
+// The engine's answers: what refuses a table text and where, how a run ends, 01's number of each, and which numbers
+// refuse a table.
 #![tactic(auto)]
 
-ghost use Rattle.std.specs.Prelude.{◌≡◌, eqb};
-ghost use Rattle.answers.specs.Numbers.{answer_number, ending_number, is_refusal};
+ghost use Rattle.std.specs.Prelude.{◌≡◌};
+ghost use Rattle.answers.specs.Numbers.{refusal_number, ending_number, is_refusal};
 
-// The lent buffer is too short for the code or the listing; a declared call is no tail call.
-pub const BUFFER_TOO_SHORT: u64 = 17;
-
-pub const NOT_TAIL_CALL: u64 = 19;
-
-// What a table text is answered with.
-#[derive(Clone, Copy)]
-pub enum Answer {
-    Accepted,
-    TableTooLong,
-    MalformedToken,
-    NotAllowedHere,
-    OverLimit,
-    WrongName,
-    WrongPatternVariable,
-    WrongLaterVariable,
-    UndeclaredName,
+// What a table text is refused with, by its number.
+#[derive(Clone, Copy, PartialEq, Eq)]
+pub enum Refusal {
+    TableTooLong = 1,
+    MalformedToken = 2,
+    NotAllowedHere = 3,
+    OverLimit = 4,
+    WrongName = 5,
+    WrongPatternVariable = 6,
+    WrongLaterVariable = 7,
+    UndeclaredName = 8,
+    // The lent buffer is too short for the code or the listing.
+    BufferTooShort = 17,
+    // A declared call is no tail call.
+    NotTailCall = 19,
 }
 
-// What a run is answered with.
+// A refusal, and the place in the text that is refused.
 #[derive(Clone, Copy)]
+pub struct Fault {
+    pub refusal: Refusal,
+    pub place: usize,
+}
+
+// What a run is answered with, by its number.
+#[derive(Clone, Copy, PartialEq, Eq)]
 pub enum Ending {
-    Finished,
-    NoSuchStart,
-    TextTooLong,
-    NoSentenceFits,
-    AllowanceSpent,
-    InFull,
-    OutFull,
-    FramesFull,
-    RecordFull,
-    NoInstruction,
-    ArgumentNotAngles,
-    AngleOutOfRange,
+    Finished = 0,
+    NoSuchStart = 9,
+    TextTooLong = 10,
+    NoSentenceFits = 11,
+    AllowanceSpent = 12,
+    InFull = 13,
+    OutFull = 14,
+    FramesFull = 15,
+    RecordFull = 16,
+    NoInstruction = 18,
+    ArgumentNotAngles = 20,
+    AngleOutOfRange = 21,
 }
 
-pub fn answer_number(answer: Answer) -> u64
-    ensures { result ≡ answer_number answer }
-{
-    match answer {
-        Answer::Accepted => 0,
-        Answer::TableTooLong => 1,
-        Answer::MalformedToken => 2,
-        Answer::NotAllowedHere => 3,
-        Answer::OverLimit => 4,
-        Answer::WrongName => 5,
-        Answer::WrongPatternVariable => 6,
-        Answer::WrongLaterVariable => 7,
-        Answer::UndeclaredName => 8,
+impl From<Refusal> for u64 {
+    ghost from_gives = { λ refusal number. number ≡ refusal_number refusal };
+
+    fn from(refusal: Refusal) -> u64 {
+        refusal as u64
     }
 }
 
-pub fn ending_number(ending: Ending) -> u64
-    ensures { result ≡ ending_number ending }
-{
-    match ending {
-        Ending::Finished => 0,
-        Ending::NoSuchStart => 9,
-        Ending::TextTooLong => 10,
-        Ending::NoSentenceFits => 11,
-        Ending::AllowanceSpent => 12,
-        Ending::InFull => 13,
-        Ending::OutFull => 14,
-        Ending::FramesFull => 15,
-        Ending::RecordFull => 16,
-        Ending::NoInstruction => 18,
-        Ending::ArgumentNotAngles => 20,
-        Ending::AngleOutOfRange => 21,
-    }
-}
+impl From<Ending> for u64 {
+    ghost from_gives = { λ ending number. number ≡ ending_number ending };
 
-// Whether nothing is wrong with a text.
-pub fn is_accepted(answer: Answer) -> bool
-    ensures { result ≡ eqb (answer_number answer) 0 }
-{
-    if let Answer::Accepted = answer {
-        true
-    } else {
-        false
+    fn from(ending: Ending) -> u64 {
+        ending as u64
     }
 }
 
@@ -91,11 +66,5 @@ pub fn is_accepted(answer: Answer) -> bool
 pub fn is_refusal(number: u64) -> bool
     ensures { result ≡ is_refusal number }
 {
-    if number == 0 {
-        return false;
-    }
-    if number < 9 {
-        return true;
-    }
-    number == BUFFER_TOO_SHORT
+    (1..9).contains(&number) || number == u64::from(Refusal::BufferTooShort)
 }

@@ -2,15 +2,18 @@
 use mathlib.Core.Path.{◌≡◌, refl, sym, ◌∙◌}
 use mathlib.Core.Bool.{Bool, true, false}
 use mathlib.Core.List.{List, [], ◌∷◌}
-use Prim.Native.Nat.{ℕ, zero, suc, ◌+◌, ◌<◌, ◌≤◌}
+use Prim.Native.Nat.{ℕ, zero, suc, ◌+◌, ◌/◌, ◌%◌, ◌^◌, ◌<◌, ◌≤◌}
 use native.Mathlib.Nat.{add-zero, zero-add, add-suc, suc-add, le_of_suc-le-suc, not-suc-le-zero}
 use native.Mathlib.Omega.{arith}
 use lib.Dec.{T, ltb, eqb}
 use lib.ListN.{length, get_or, replicate}
 use borrow.Author.Tests.{le-ltb, ne_eqb, ltb-true, ltb-false}
 use Rattle.meaning.specs.Choice.{both}
-use Rattle.meaning.specs.Classes.{same_truth}
+use Rattle.meaning.specs.Classes.{same_truth, in_class, class_number}
 use Rattle.meaning.proofs.Laws.Passing.{both_left, both_right}
+use Rattle.byte_classes.specs.Classed.{class_meant}
+use Rattle.byte_classes.specs.declared.Class.{Class}
+use Rattle.byte_classes.specs.declared.Class.TheVariants.{Digit, Upper, Lower, Letter, Blank}
 use Rattle.byte_classes.specs.Tests.{test_count, class_test, bit_of, Answers}
 
 same-eq : (a b : Bool) → T (same_truth a b) → a ≡ b
@@ -74,3 +77,13 @@ module _ (xs : List ℕ) (class b : ℕ) (t : sound xs ≡ true) (h : b < length
 
 pub answering : (xs : List ℕ) → sound xs ≡ true → length xs ≡ 256 → Answers xs
 answering xs t e = record { each = λ class b h. classed xs class b t (rw e h) }
+
+-- a class's bit of a byte's entry
+pub classed_bit : (class : Class) {xs : List ℕ} → Answers xs → (b : ℕ) → b < 256 →
+    eqb (get_or xs b 0 / 2 ^ class_number (class_meant class) % 2) 1 ≡ in_class (class_meant class) b
+unfolding bit_of
+classed_bit Digit a b h = a.each 0 b h
+classed_bit Upper a b h = a.each 1 b h
+classed_bit Lower a b h = a.each 2 b h
+classed_bit Letter a b h = a.each 3 b h
+classed_bit Blank a b h = a.each 4 b h

@@ -3,15 +3,47 @@
 #![tactic(auto)]
 
 ghost use Rattle.std.specs.Prelude.{◌≡◌};
-ghost use Rattle.meaning.specs.Classes.{within, in_class, digit, alphabetic, is_blank_byte};
+ghost use Rattle.meaning.specs.Classes.{in_class, class_number, digit, alphabetic, is_blank_byte};
+ghost use Rattle.meaning.specs.Packing.{class_of};
 ghost use Rattle.meaning.specs.Allowed.{word_byte, name_byte};
-ghost use Rattle.byte_classes.specs.Tests.{class_test, bit_of, Answers};
+ghost use Rattle.byte_classes.specs.Tests.{Answers};
+ghost use Rattle.byte_classes.specs.Classed.{class_meant, class_found};
 
 // How many bytes there are.
 pub const BYTE_COUNT: usize = 256;
 
-// How many tests the table answers.
-const TEST_COUNT: u8 = 5;
+// The classes that a condition asks for, in the order of their numbers.
+#[derive(Clone, Copy, PartialEq, Eq)]
+pub enum Class {
+    Digit,
+    Upper,
+    Lower,
+    Letter,
+    Blank,
+}
+
+impl Class {
+    // The class of a number in the code, if there is one.
+    pub fn from_number(number: u32) -> Option<Class>
+        ensures { class_found result ≡ class_of number }
+    {
+        match number {
+            0 => Some(Class::Digit),
+            1 => Some(Class::Upper),
+            2 => Some(Class::Lower),
+            3 => Some(Class::Letter),
+            4 => Some(Class::Blank),
+            _ => None,
+        }
+    }
+
+    // A class's number in the code, and its bit in the table.
+    pub fn number(self) -> usize
+        ensures { result ≡ class_number (class_meant self) }
+    {
+        self as usize
+    }
+}
 
 // Bits 0 to 4: IsDigit, IsUpper, IsLower, IsLetter, IsBlank.
 const CLASSES: [u8; BYTE_COUNT] = [
@@ -35,93 +67,64 @@ const CLASSES: [u8; BYTE_COUNT] = [
     0, 0, 0, 0, 0,
 ];
 
-// A bit of an entry; there is one for each test.
-pub fn bit(entry: u8, class: u8) -> bool
-    ensures { result ≡ bit_of class entry }
-{
-    if class < TEST_COUNT {
-        (entry >> class) % 2 == 1
-    } else {
-        false
+// The classes of all bytes, for a caller that asks of many: naming the constant builds it anew each time.
+#[derive(Drop)]
+pub struct ClassTable {
+    bits: [u8; BYTE_COUNT],
+    ghost answers: { Answers bits },
+}
+
+impl ClassTable {
+    // The table of this engine.
+    pub fn new() -> Self {
+        ClassTable { bits: CLASSES }
     }
-}
 
-// The table, for a caller that asks of many bytes.
-pub fn class_table() -> [u8; BYTE_COUNT]
-    ensures { Answers result }
-{
-    CLASSES
-}
-
-// The same test by a table that the caller has: naming the constant builds it anew each time.
-pub fn passes(table: &[u8; BYTE_COUNT], byte: u8, class: u8) -> bool
-    requires { Answers table.now }
-    ensures { result ≡ class_test class byte }
-{
-    let entry = table[byte as usize];
-    bit(entry, class)
-}
-
-// Whether a byte lies from `first` to `last`. A single byte is told by comparing, since naming the table builds it.
-fn is_within(first: u8, last: u8, byte: u8) -> bool
-    ensures { result ≡ within first last byte }
-{
-    if byte < first {
-        return false;
+    // Another table that answers the same.
+    pub fn of(bits: [u8; BYTE_COUNT]) -> Self
+        requires { Answers bits }
+        ensures { result.bits ≡ bits }
+    {
+        ClassTable { bits }
     }
-    byte <= last
+
+    // Whether a byte is in a class.
+    pub fn passes(&self, byte: u8, class: Class) -> bool
+        ensures { result ≡ in_class (class_meant class) byte }
+    {
+        (self.bits[byte as usize] >> class.number()) % 2 == 1
+    }
 }
 
 pub fn is_digit(byte: u8) -> bool
     ensures { result ≡ in_class digit byte }
 {
-    is_within(b'0', b'9', byte)
+    matches!(byte, b'0'..=b'9')
 }
 
 pub fn is_letter(byte: u8) -> bool
     ensures { result ≡ in_class alphabetic byte }
 {
-    if is_within(b'A', b'Z', byte) {
-        return true;
-    }
-    is_within(b'a', b'z', byte)
+    matches!(byte, b'A'..=b'Z' | b'a'..=b'z')
 }
 
 // Letters and digits.
 pub fn is_word_byte(byte: u8) -> bool
     ensures { result ≡ word_byte byte }
 {
-    if is_letter(byte) {
-        return true;
-    }
-    is_digit(byte)
+    is_letter(byte) || is_digit(byte)
 }
 
 // What a function's name has after its first letter.
 pub fn is_name_byte(byte: u8) -> bool
     ensures { result ≡ name_byte byte }
 {
-    if is_word_byte(byte) {
-        return true;
-    }
-    if byte == b'_' {
-        return true;
-    }
-    byte == b'-'
+    is_word_byte(byte) || matches!(byte, b'_' | b'-')
 }
 
 // The blanks between tokens.
 pub fn is_blank(byte: u8) -> bool
     ensures { result ≡ is_blank_byte byte }
 {
-    if byte == b' ' {
-        return true;
-    }
-    if byte == b'\t' {
-        return true;
-    }
-    if byte == b'\n' {
-        return true;
-    }
-    byte == b'\r'
+    matches!(byte, b' ' | b'\t' | b'\n' | b'\r')
 }

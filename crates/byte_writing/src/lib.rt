@@ -1,65 +1,100 @@
 // Writing bytes of a listing, each only where the buffer has a cell for it, so that writing into no cells counts them.
 #![tactic(auto)]
 
-ghost use Rattle.std.specs.Prelude.{◌+◌, ◌/◌, ◌%◌, ◌<◌, [], ◌∷◌, length};
+ghost use Rattle.std.specs.Prelude.{◌≡◌, ◌+◌, ◌<◌, [], ◌∷◌, length};
 ghost use Rattle.meaning.specs.Listing.{decimal};
-ghost use Rattle.byte_writing.specs.Put.{Put, farthest, zero_digit, backslash};
+ghost use Rattle.meaning.specs.Numerals.{two_digits};
+ghost use Rattle.byte_writing.specs.Put.{farthest, zero_digit, backslash};
+ghost use Rattle.byte_writing.specs.Wrote.{Begins, BeginsAt, Wrote};
 
-// One byte.
-pub fn put(out: &mut [u8], at: usize, byte: u8) -> usize
-    requires { at < farthest }
-    ensures { Put at out.old (byte ∷ []) result out.new }
-{
-    if at < out.len() {
-        out[at] = byte;
-        return at + 1;
-    }
-    at + 1
+// Cells that are lent, and the place of the next byte, which may lie past their end.
+#[derive(Drop)]
+pub struct ByteWriter<'a> {
+    cells: &'a mut [u8],
+    at: usize,
 }
 
-// All bytes of a text.
-pub fn put_all(out: &mut [u8], at: usize, text: &[u8]) -> usize
-    requires { at + length text.now < farthest }
-    ensures { Put at out.old text.now result out.new }
+// The byte of one decimal digit.
+fn digit(number: u32) -> u8
+    requires { number < 10 }
+    ensures { result ≡ zero_digit + number }
 {
-    let mut i = 0;
-    let mut next = at;
-    while i < text.len() {
-        next = put(out, next, text[i]);
-        i += 1;
-    }
-    next
+    b'0' + number as u8
 }
 
-// The last two of a byte's decimal digits.
-fn put_tens(number: u8, out: &mut [u8], at: usize) -> usize
-    requires { at + 1 < farthest }
-    ensures { Put at out.old
-        ((zero_digit + number / 10 % 10) ∷ (zero_digit + number % 10) ∷ []) result out.new }
-{
-    let next = put(out, at, b'0' + number / 10 % 10);
-    put(out, next, b'0' + number % 10)
-}
-
-// A byte's decimal digits.
-pub fn put_decimal(number: u8, out: &mut [u8], at: usize) -> usize
-    requires { at + 2 < farthest }
-    ensures { Put at out.old (decimal number) result out.new }
-{
-    if number < 10 {
-        return put(out, at, b'0' + number);
+impl<'a> ByteWriter<'a> {
+    // A writer at the first of these cells.
+    pub fn new(cells: &'a mut [u8]) -> ByteWriter<'a>
+        ensures { Begins cells.entry result }
+    {
+        ByteWriter { cells, at: 0 }
     }
-    if number < 100 {
-        return put_tens(number, out, at);
-    }
-    let next = put(out, at, b'0' + number / 100);
-    put_tens(number, out, next)
-}
 
-pub fn put_escape(byte: u8, out: &mut [u8], at: usize) -> usize
-    requires { at + 1 < farthest }
-    ensures { Put at out.old (backslash ∷ byte ∷ []) result out.new }
-{
-    let next = put(out, at, b'\\');
-    put(out, next, byte)
+    // A writer at this place of these cells, which may lie past their end.
+    pub fn at(cells: &'a mut [u8], at: usize) -> ByteWriter<'a>
+        ensures { BeginsAt cells.entry at result }
+    {
+        ByteWriter { cells, at }
+    }
+
+    // How many bytes were put.
+    pub fn count(&self) -> usize
+        ensures { result ≡ self.now.at }
+    {
+        self.at
+    }
+
+    // One byte.
+    pub fn put(&mut self, byte: u8)
+        requires { self.old.at < farthest }
+        ensures { Wrote self.old (byte ∷ []) self.new }
+    {
+        if self.at < self.cells.len() {
+            self.cells[self.at] = byte;
+        }
+        self.at += 1;
+    }
+
+    // All bytes of a text.
+    pub fn put_all(&mut self, text: &[u8])
+        requires { self.old.at + length text.now < farthest }
+        ensures { Wrote self.old text.now self.new }
+    {
+        for &byte in text {
+            self.put(byte);
+        }
+    }
+
+    // A byte with a backslash before it.
+    pub fn put_escape(&mut self, byte: u8)
+        requires { self.old.at + 1 < farthest }
+        ensures { Wrote self.old (backslash ∷ byte ∷ []) self.new }
+    {
+        self.put(b'\\');
+        self.put(byte);
+    }
+
+    // The two digits of a number below 100.
+    pub fn put_two_digits(&mut self, number: u32)
+        requires { (number < 100) × (self.old.at + 1 < farthest) }
+        ensures { Wrote self.old (two_digits number) self.new }
+    {
+        self.put(digit(number / 10));
+        self.put(digit(number % 10));
+    }
+
+    // The digits of a number below 1,000, with no leading zeros.
+    pub fn put_decimal(&mut self, number: u32)
+        requires { (number < 1000) × (self.old.at + 2 < farthest) }
+        ensures { Wrote self.old (decimal number) self.new }
+    {
+        if number < 10 {
+            return self.put(digit(number));
+        }
+        if number < 100 {
+            return self.put_two_digits(number);
+        }
+        self.put(digit(number / 100));
+        self.put_two_digits(number % 100);
+    }
 }

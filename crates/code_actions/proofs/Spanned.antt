@@ -1,4 +1,4 @@
--- Spans by number are meaning's, for a pattern's shape, its lengths and where p stands; and so is what ends a pattern.
+-- Spans are meaning's, for a pattern's shape, its lengths and where p stands; and so is what ends a pattern.
 use Prim.Native.Nat.{◌≤◌}
 use native.Mathlib.Omega.{arith}
 use mathlib.Core.Path.{◌≡◌, refl}
@@ -17,9 +17,9 @@ use Rattle.code_actions.specs.declared.spans.Stand.TheVariants.{AtStart, AfterFi
 use Rattle.code_actions.specs.declared.spans.Span.{Span}
 use Rattle.code_patterns.specs.Testing.{total}
 use Rattle.code_patterns.specs.Measuring.{lengths_of, first_part_or}
-use Rattle.code_actions.specs.Spanning.{meant_stand, span_numbers, gap_by, piece_span, stand_after, rest_by, ends_by, SmallSpan}
+use Rattle.code_actions.specs.Spanning.{meant_stand, span_meant, gap_by, piece_span, stand_after, rest_by, ends_by, SmallSpan}
 
-pub rest-span : (s : Shape) (w : Stand) → rest_by (lengths_of s).parts (lengths_of s) w ≡ span_numbers (rest_of s (meant_stand w))
+pub rest-span : (s : Shape) (w : Stand) → span_meant (rest_by (lengths_of s).parts (lengths_of s) w) ≡ rest_of s (meant_stand w)
 rest-span (fixed t) w = refl
 rest-span (open₁ h x t) AtStart = refl
 rest-span (open₁ h x t) AfterFirst = refl
@@ -31,8 +31,8 @@ rest-span (open₂ h x m y t) AfterSecond = refl
 -- the passage of an e-variable: `first` says whether it is the pattern's first
 abbrev Passes : Shape → Name → Bool → Stand → Type 0
 Passes s x first w =
-    (gap_by (lengths_of s).parts (lengths_of s) first w ≡ span_numbers (passage s x (meant_stand w)).gap) ×
-    (piece_span (lengths_of s).parts (lengths_of s) first ≡ span_numbers (passage s x (meant_stand w)).piece) ×
+    (span_meant (gap_by (lengths_of s).parts (lengths_of s) first w) ≡ (passage s x (meant_stand w)).gap) ×
+    (span_meant (piece_span (lengths_of s).parts (lengths_of s) first) ≡ (passage s x (meant_stand w)).piece) ×
     (meant_stand (stand_after (lengths_of s).parts first w) ≡ (passage s x (meant_stand w)).after)
 
 of_two : (h m t : List Letter) (x y z : Name) (first : Bool) (w : Stand) → same_bytes x y ≡ first → Passes (open₂ h y m z t) x first w
@@ -62,8 +62,8 @@ ends_same (open₂ h y m z t) x other = of-second (same_bytes x y)
 
 -- HOW LARGE THEIR NUMBERS ARE
 
-small : {s : Span} → (s.register ≤ 3) × (s.add ≤ 64) × (s.back ≤ 64) → SmallSpan s
-small h = record { register = h.0; add = h.1; back = h.2 }
+small : {s : Span} → (s.add ≤ 64) × (s.back ≤ 64) → SmallSpan s
+small h = record { add = h.0; back = h.1 }
 
 -- the span that was worked out
 pub small-as : {s t : Span} → s ≡ t → SmallSpan t → SmallSpan s

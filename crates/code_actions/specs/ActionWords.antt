@@ -1,17 +1,17 @@
 -- The code words of an e-variable's actions, of the rest of the field, of a call's argument and of an angle call.
 use Rattle.std.specs.Prelude.{ℕ, ◌+◌, ◌*◌, Bool, [], ◌∷◌}
-use Rattle.meaning.specs.Angles.{operation}
-use Rattle.meaning.specs.Packing.{Words, code_word, operation_number}
+use Rattle.meaning.specs.Angles.{Operation}
+use Rattle.meaning.specs.Packing.{Words, code_word, span_word, operation_number}
 use Rattle.meaning.specs.Packing.{actions_end, compute_number, go_number, out_number, select_number, tail_call_number}
 use Rattle.meaning.specs.Packing.{use_seq_number}
 use Rattle.code_numbers.specs.Numbers.{operand}
 use Rattle.code_patterns.specs.declared.pattern.Lengths.{Lengths}
 use Rattle.code_actions.specs.declared.spans.Stand.{Stand}
 use Rattle.code_actions.specs.declared.spans.Span.{Span}
-use Rattle.code_actions.specs.Spanning.{gap_by, piece_span, rest_by}
+use Rattle.code_actions.specs.Spanning.{span_meant, gap_by, piece_span, rest_by}
 
 abbrev pub span_words : ℕ → Span → ℕ
-span_words number s = code_word number s.register s.add s.back
+span_words number s = span_word number (span_meant s)
 
 -- an e-variable's three words: Go to it, Select it, Out of it
 abbrev pub part_words : Lengths → Bool → Stand → Words
@@ -33,6 +33,6 @@ left_words l first w number =
     span_words select_number (piece_span l.parts l first) ∷
     (tail_call_number + operand * number) ∷ actions_end ∷ []
 
--- an angle call, by whether it subtracts
-abbrev pub computation_word : Bool → ℕ
-computation_word subtract = code_word compute_number (operation_number (operation subtract)) 0 0
+-- an angle call
+abbrev pub computation_word : Operation → ℕ
+computation_word op = code_word compute_number (operation_number op) 0 0

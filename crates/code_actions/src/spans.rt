@@ -1,7 +1,9 @@
 // Spans: from where p stands to an e-variable, the e-variable itself, and the rest of the field.
 ghost use Rattle.std.specs.Prelude.{◌≡◌, ◌+◌, ◌≤◌};
 ghost use Rattle.meaning.specs.Allowed.{max_letters};
-ghost use Rattle.code_actions.specs.Spanning.{code_span, gap_by, piece_span, stand_after, rest_by, ends_by};
+ghost use Rattle.meaning.specs.Packing.{length_number};
+ghost use Rattle.code_actions.specs.Spanning.{length_meant, code_span, gap_by, piece_span, stand_after, rest_by};
+ghost use Rattle.code_actions.specs.Spanning.{ends_by};
 
 use code_numbers::wide::{LEFT, NULL, RIGHT, WHOLE};
 use code_patterns::pattern::Lengths;
@@ -15,15 +17,38 @@ pub enum Stand {
     AfterSecond,
 }
 
-// A register's number, what is added to it and what stays back.
-#[derive(Drop)]
+// A length of the field, which a span counts from.
+#[derive(Clone, Copy)]
+pub enum FieldLength {
+    Null,
+    Whole,
+    Left,
+    Right,
+}
+
+impl FieldLength {
+    // Its number in a word.
+    pub fn number(self) -> usize
+        ensures { result ≡ length_number (length_meant self) }
+    {
+        match self {
+            FieldLength::Null => NULL,
+            FieldLength::Whole => WHOLE,
+            FieldLength::Left => LEFT,
+            FieldLength::Right => RIGHT,
+        }
+    }
+}
+
+// A length of the field, what is added to it and what stays back.
+#[derive(Clone, Copy)]
 pub struct Span {
-    pub register: usize,
+    pub register: FieldLength,
     pub add: usize,
     pub back: usize,
 }
 
-fn span_of(register: usize, add: usize, back: usize) -> Span
+fn span_of(register: FieldLength, add: usize, back: usize) -> Span
     ensures { result ≡ code_span register add back }
 {
     Span {
@@ -33,24 +58,20 @@ fn span_of(register: usize, add: usize, back: usize) -> Span
     }
 }
 
-// From where p stands to an e-variable, which is the pattern's first or not.
+// From where p stands to an e-variable, which is the pattern's first or not. Here and below `first` is a `bool`: it is
+// what a comparison of two names answers.
 pub fn gap_of(lengths: Lengths, first: bool, stand: Stand) -> Span
     ensures { result ≡ gap_by lengths.parts lengths first stand }
 {
-    let parts = lengths.parts;
-    match parts {
-        Parts::Zero => span_of(NULL, 0, 0),
-        Parts::One => span_of(NULL, lengths.first, 0),
-        Parts::Two => {
-            if first {
-                return span_of(NULL, lengths.first, 0);
-            }
-            match stand {
-                Stand::AtStart => span_of(LEFT, lengths.second, 0),
-                Stand::AfterFirst => span_of(NULL, lengths.second, 0),
-                Stand::AfterSecond => span_of(NULL, 0, 0),
-            }
-        }
+    match lengths.parts {
+        Parts::Zero => span_of(FieldLength::Null, 0, 0),
+        Parts::One => span_of(FieldLength::Null, lengths.first, 0),
+        Parts::Two if first => span_of(FieldLength::Null, lengths.first, 0),
+        Parts::Two => match stand {
+            Stand::AtStart => span_of(FieldLength::Left, lengths.second, 0),
+            Stand::AfterFirst => span_of(FieldLength::Null, lengths.second, 0),
+            Stand::AfterSecond => span_of(FieldLength::Null, 0, 0),
+        },
     }
 }
 
@@ -59,16 +80,11 @@ pub fn piece_span(lengths: Lengths, first: bool) -> Span
     requires { lengths.first + lengths.second + lengths.third ≤ max_letters }
     ensures { result ≡ piece_span lengths.parts lengths first }
 {
-    let parts = lengths.parts;
-    match parts {
-        Parts::Zero => span_of(NULL, 0, 0),
-        Parts::One => span_of(WHOLE, 0, lengths.first + lengths.second),
-        Parts::Two => {
-            if first {
-                return span_of(LEFT, 0, lengths.first);
-            }
-            span_of(RIGHT, 0, lengths.second + lengths.third)
-        }
+    match lengths.parts {
+        Parts::Zero => span_of(FieldLength::Null, 0, 0),
+        Parts::One => span_of(FieldLength::Whole, 0, lengths.first + lengths.second),
+        Parts::Two if first => span_of(FieldLength::Left, 0, lengths.first),
+        Parts::Two => span_of(FieldLength::Right, 0, lengths.second + lengths.third),
     }
 }
 
@@ -79,12 +95,8 @@ pub fn stand_after(parts: Parts, first: bool, stand: Stand) -> Stand
     match parts {
         Parts::Zero => stand,
         Parts::One => Stand::AfterFirst,
-        Parts::Two => {
-            if first {
-                return Stand::AfterFirst;
-            }
-            Stand::AfterSecond
-        }
+        Parts::Two if first => Stand::AfterFirst,
+        Parts::Two => Stand::AfterSecond,
     }
 }
 
@@ -92,19 +104,12 @@ pub fn stand_after(parts: Parts, first: bool, stand: Stand) -> Stand
 pub fn rest_of(lengths: Lengths, stand: Stand) -> Span
     ensures { result ≡ rest_by lengths.parts lengths stand }
 {
-    let parts = lengths.parts;
-    match parts {
-        Parts::Zero => span_of(WHOLE, 0, 0),
-        Parts::One => match stand {
-            Stand::AtStart => span_of(WHOLE, 0, 0),
-            Stand::AfterFirst => span_of(NULL, lengths.second, 0),
-            Stand::AfterSecond => span_of(NULL, 0, 0),
-        },
-        Parts::Two => match stand {
-            Stand::AtStart => span_of(WHOLE, 0, 0),
-            Stand::AfterFirst => span_of(RIGHT, 0, 0),
-            Stand::AfterSecond => span_of(NULL, lengths.third, 0),
-        },
+    match (lengths.parts, stand) {
+        (Parts::Zero, _) | (_, Stand::AtStart) => span_of(FieldLength::Whole, 0, 0),
+        (Parts::One, Stand::AfterFirst) => span_of(FieldLength::Null, lengths.second, 0),
+        (Parts::One, Stand::AfterSecond) => span_of(FieldLength::Null, 0, 0),
+        (Parts::Two, Stand::AfterFirst) => span_of(FieldLength::Right, 0, 0),
+        (Parts::Two, Stand::AfterSecond) => span_of(FieldLength::Null, lengths.third, 0),
     }
 }
 
@@ -112,15 +117,9 @@ pub fn rest_of(lengths: Lengths, stand: Stand) -> Span
 pub fn ends_pattern(lengths: Lengths, first: bool) -> bool
     ensures { result ≡ ends_by lengths.parts lengths first }
 {
-    let parts = lengths.parts;
-    match parts {
+    match lengths.parts {
         Parts::Zero => false,
         Parts::One => lengths.second == 0,
-        Parts::Two => {
-            if first {
-                return false;
-            }
-            lengths.third == 0
-        }
+        Parts::Two => !first && lengths.third == 0,
     }
 }

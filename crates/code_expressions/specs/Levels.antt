@@ -44,7 +44,8 @@ level_opened place n l =
 -- `next` reads on with so many calls open and after so many items, so many words further on
 abbrev pub item_by : Item → ℕ → ℕ → ℕ → List ℕ → (ℕ → ℕ → ℕ → Levels) → Levels
 item_by Byte depth items w ws next = on_current (then_character w) (next depth (items + 1) 0)
-item_by Symbol depth items w ws next = on_current (then_symbol (take (carried w) ws)) (next depth (items + 1) (carried w))
+item_by Symbol depth items w ws next =
+    on_current (then_symbol (take (carried w) ws)) (next depth (items + 1) (carried w))
 item_by Part depth items w ws next = on_current (then_part (take (carried w) ws)) (next depth (items + 1) (carried w))
 item_by Call depth items w ws next =
     level_opened (place_in w) (take (carried w) ws) (next (depth + 1) (items + 1) (carried w))

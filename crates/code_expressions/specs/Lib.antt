@@ -1,4 +1,3 @@
 -- The definitions, in the order in which they build on each other.
 pub mod Levels
-pub mod Naming
 pub mod Resuming

@@ -1,6 +1,7 @@
 -- A sentence's expression as actions, as they are written item by item: what is still to be written from where the
 -- writing stands.
-use Rattle.std.specs.Prelude.{ℕ, zero, suc, ◌+◌, ◌-◌, ◌*◌, ◌≤◌, ◌<◌, ◌≡◌, Bool, true, false, not, List, [], ◌∷◌, map, eqb, length, drop, get_or}
+use Rattle.std.specs.Prelude.{ℕ, zero, suc, ◌+◌, ◌-◌, ◌*◌, ◌≤◌, ◌<◌, ◌≡◌, Bool, true, false, not, List, [], ◌∷◌}
+use Rattle.std.specs.Prelude.{map, eqb, length, drop, get_or}
 use Rattle.meaning.specs.Choice.{Name, pick, both, Named, same_bytes}
 use Rattle.meaning.specs.Tree.{Expression, Table}
 use Rattle.meaning.specs.Names.{calling_of, number_of}
@@ -8,13 +9,15 @@ use Rattle.meaning.specs.Allowed.{names_of, max_items, max_nesting}
 use Rattle.meaning.specs.Instructions.{Site, Action}
 use Rattle.meaning.specs.Translation.{Shape, Stand as MeantStand, Level, outermost, manner_of, level_in, calling}
 use Rattle.meaning.specs.Translation.{item_actions, passes_rest, actions_of}
-use Rattle.meaning.specs.Packing.{Words, code_word, pack_actions, actions_end, call_number, emission_number, tail_call_number}
+use Rattle.meaning.specs.Packing.{Words, code_word, pack_actions, actions_end, call_number, emission_number}
+use Rattle.meaning.specs.Packing.{tail_call_number}
 use Rattle.tape_words.specs.declared.names.Calling.{Calling}
 use Rattle.tape_words.specs.declared.names.Calling.TheVariants.{Emission, Angles, Function}
 use Rattle.tape_words.specs.declared.tape.Item.{Item}
 use Rattle.tape_words.specs.declared.tape.Item.TheVariants.{Byte, Symbol, Part, Call, Pass, Close, Unclosed, Stop}
 use Rattle.code_patterns.specs.declared.pattern.Lengths.{Lengths}
 use Rattle.code_patterns.specs.declared.pattern.Pattern.{Pattern}
+use Rattle.code_patterns.specs.declared.symbols.Symbol.{Symbol as SVariable}
 use Rattle.code_actions.specs.declared.spans.Stand.{Stand}
 use Rattle.code_expressions.specs.declared.expression.Walk.{Walk}
 use Rattle.code_expressions.specs.declared.expression.Manner.{Manner}
@@ -22,9 +25,12 @@ use Rattle.code_expressions.specs.declared.expression.Manner.TheVariants.{Emits,
 use Rattle.tape_words.specs.Words.{head_name, head_names, item_at}
 use Rattle.code_expressions.specs.Levels.{Levels, first_of, others_of, levels_in}
 use Rattle.code_numbers.specs.Numbers.{operand}
-use Rattle.code_words.specs.Writing.{Wrote, Same}
+use Rattle.code_numbers.specs.Operations.{operation_meant}
+use Rattle.code_words.specs.declared.CodeWriter.{CodeWriter}
+use Rattle.code_words.specs.Writer.{Written, StillToWrite}
 use Rattle.tape_words.specs.Finding.{number_among, calling_in}
 use Rattle.code_patterns.specs.Measuring.{flag, lengths_of, first_part_or}
+use Rattle.code_patterns.specs.Testing.{symbol_name}
 use Rattle.code_actions.specs.Spanning.{meant_stand, ends_by}
 use Rattle.code_actions.specs.ActionWords.{rest_word, ready_words, computation_word}
 
@@ -66,23 +72,24 @@ rest_now false ws w = drop w.next ws
 
 -- THE STEPS
 
-abbrev pub item_done : Walk → ℕ → ℕ → ℕ → Stand → Walk
-item_done w size at depth stand =
-    record { next = w.next + 1 + size; at = at; items = w.items + 1; depth = depth; stand = stand; more = true }
+abbrev pub item_done : Walk → ℕ → ℕ → Stand → Walk
+item_done w size depth stand =
+    record { next = w.next + 1 + size; items = w.items + 1; depth = depth; stand = stand; more = true }
 
 abbrev pub word_done : Walk → Walk
 word_done w =
-    record { next = w.next + 1; at = w.at; items = w.items; depth = w.depth; stand = w.stand; more = true }
+    record { next = w.next + 1; items = w.items; depth = w.depth; stand = w.stand; more = true }
 
-abbrev pub call_done : Walk → ℕ → ℕ → Bool → Walk
-call_done w next at more =
-    record { next = next; at = at; items = w.items; depth = w.depth - 1; stand = w.stand; more = more }
+abbrev pub call_done : Walk → ℕ → Bool → Walk
+call_done w next more =
+    record { next = next; items = w.items; depth = w.depth - 1; stand = w.stand; more = more }
 
 -- what follows a call's argument
 abbrev pub call_words : Manner → Lengths → Stand → ℕ → Name → Words
 call_words Emits l w number n = ready_words (code_word emission_number (length n) 0 0 ∷ n)
-call_words (Computes subtract) l w number n = ready_words (computation_word subtract ∷ [])
-call_words Replaces l w number n = rest_word l w ∷ ready_words ((tail_call_number + operand * number) ∷ actions_end ∷ [])
+call_words (Computes op) l w number n = ready_words (computation_word (operation_meant op) ∷ [])
+call_words Replaces l w number n =
+    rest_word l w ∷ ready_words ((tail_call_number + operand * number) ∷ actions_end ∷ [])
 call_words Nests l w number n = ready_words ((call_number + operand * number) ∷ [])
 
 abbrev pub is_stop : Item → Bool
@@ -101,7 +108,7 @@ last_call depth ws item_actions = pick (eqb depth 0) (is_stop (item_at ws 0 item
 
 abbrev pub manner_by : Calling → Bool → Manner
 manner_by Emission last = Emits
-manner_by (Angles subtract) last = Computes subtract
+manner_by (Angles op) last = Computes op
 manner_by Function last = pick last Replaces Nests
 
 -- how the innermost open call is done, where the tape goes on at `next`
@@ -112,7 +119,7 @@ manner_now ws calls next w =
 
 abbrev pub continues : Manner → Bool
 continues Emits = true
-continues (Computes subtract) = true
+continues (Computes op) = true
 continues Replaces = false
 continues Nests = true
 
@@ -129,8 +136,8 @@ ending_by Symbol ws calls w = w
 ending_by Part ws calls w = w
 ending_by Call ws calls w = w
 ending_by Pass ws calls w = w
-ending_by Close ws calls w = call_done w (w.next + 1) w.at (continues (manner_now ws calls (w.next + 1) w))
-ending_by Unclosed ws calls w = call_done w w.next w.at (continues (manner_now ws calls w.next w))
+ending_by Close ws calls w = call_done w (w.next + 1) (continues (manner_now ws calls (w.next + 1) w))
+ending_by Unclosed ws calls w = call_done w w.next (continues (manner_now ws calls w.next w))
 ending_by Stop ws calls w = w
 
 abbrev pub past_ending : List ℕ → List ℕ → Walk → Walk
@@ -138,7 +145,7 @@ past_ending ws calls w = ending_by (item_at (drop w.next ws) w.depth w.items) ws
 
 -- past the variable where a walk stands, with nothing written for it
 abbrev pub past_name : List ℕ → Walk → Walk
-past_name ws w = item_done w (length (head_name ws w.next)) w.at w.depth w.stand
+past_name ws w = item_done w (length (head_name ws w.next)) w.depth w.stand
 
 -- the e-variable where a walk stands is the pattern's first
 abbrev pub is_first : List ℕ → Pattern → Walk → Bool
@@ -150,16 +157,17 @@ stays ws calls m w =
     both (not (past_ending ws calls (past_name ws w)).more) (ends_by m.lengths.parts m.lengths (is_first ws m w))
 
 -- nothing more is to be written
-abbrev pub all_done : Walk → ℕ → Walk
-all_done w at = record { next = w.next; at = at; items = w.items; depth = w.depth; stand = w.stand; more = false }
+abbrev pub all_done : Walk → Walk
+all_done w = record { next = w.next; items = w.items; depth = w.depth; stand = w.stand; more = false }
 
 -- THEIR CONTRACT
 
--- the heads are those of a table's functions, the names those of a sentence's different s-variables, and the measure
--- that of its pattern's shape
-pub record Means (ws heads names : List ℕ) (m : Pattern) (t : Table) (s : Shape) (ss : List (Named Site)) : Type 0 where
+-- the heads are those of a table's functions, the symbols' names those of a sentence's different s-variables, and the
+-- measure that of its pattern's shape
+pub record Means (ws heads : List ℕ) (symbols : List SVariable) (m : Pattern) (t : Table) (s : Shape)
+    (ss : List (Named Site)) : Type 0 where
   pub functions : names_of t ≡ head_names ws heads
-  pub symbols : map (λ x. x.name) ss ≡ head_names ws names
+  pub known : map (λ x. x.name) ss ≡ map (λ x. symbol_name ws x) symbols
   pub lengths : m.lengths ≡ lengths_of s
   pub variable : head_name ws m.variable ≡ first_part_or (head_name ws m.variable) s
 
@@ -197,21 +205,21 @@ abbrev pub to_go : List ℕ → Walk → ℕ
 to_go ws w = 2 * (length ws + 1 - w.next) + w.depth + flag w.more
 
 -- a step keeps what the actions come to, and goes on
-pub record ItemsOn (ws heads names : List ℕ) (m : Pattern) (calls code : List ℕ) (w : Walk) (calls' code' : List ℕ)
-    (r : Walk) : Type 0 where
-  pub same : (t : Table) (s : Shape) (ss : List (Named Site)) → Means ws heads names m t s ss
-      → Same code w.at (remaining true t s ss ws calls w) code' r.at (remaining r.more t s ss ws calls' r)
+pub record ItemsOn (ws heads : List ℕ) (symbols : List SVariable) (m : Pattern) (calls : List ℕ)
+    (code : CodeWriter) (w : Walk) (calls' : List ℕ) (code' : CodeWriter) (r : Walk) : Type 0 where
+  pub same : (t : Table) (s : Shape) (ss : List (Named Site)) → Means ws heads symbols m t s ss
+      → StillToWrite code (remaining true t s ss ws calls w) code' (remaining r.more t s ss ws calls' r)
   pub rest : rest_now r.more ws r ≡ rest_now true ws w
   pub within : InItems ws calls' r
   pub ahead : to_go ws r < 2 * (length ws + 1 - w.next) + w.depth + 1
-  pub grown : r.at + call_end_words * r.depth + item_words * w.items
-      ≤ w.at + call_end_words * w.depth + item_words * r.items + last_words * (1 - flag r.more)
+  pub grown : code'.at + call_end_words * r.depth + item_words * w.items
+      ≤ code.at + call_end_words * w.depth + item_words * r.items + last_words * (1 - flag r.more)
 
 -- the whole expression is written
-pub record ItemsAll (ws heads names : List ℕ) (m : Pattern) (start : ℕ) (code : List ℕ) (at : ℕ) (code' : List ℕ)
-    (r : Walk) : Type 0 where
-  pub wrote : (t : Table) (s : Shape) (ss : List (Named Site)) → Means ws heads names m t s ss
-      → Wrote code at (pack_actions (actions_of t s ss (levels_in 0 0 0 (drop start ws)).current)) code' r.at
+pub record ItemsAll (ws heads : List ℕ) (symbols : List SVariable) (m : Pattern) (start : ℕ)
+    (code code' : CodeWriter) (r : Walk) : Type 0 where
+  pub wrote : (t : Table) (s : Shape) (ss : List (Named Site)) → Means ws heads symbols m t s ss
+      → Written code (pack_actions (actions_of t s ss (levels_in 0 0 0 (drop start ws)).current)) code'
   pub rest : drop r.next ws ≡ (levels_in 0 0 0 (drop start ws)).rest
   pub next : r.next ≤ length ws + 1
-  pub grown : r.at ≤ at + expression_words
+  pub grown : code'.at ≤ code.at + expression_words

@@ -1,2 +1,3 @@
 -- The definitions that contracts of the crates above cite.
 pub mod Numbers
+pub mod Operations

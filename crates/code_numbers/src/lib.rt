@@ -1,8 +1,11 @@
-// The numbers of the code's words, as docs/CODE.md has them. Of instructions, registers, lengths, operations and
-// classes, and what each operand of a word counts. Here they are as a word has them; `wide` has them as counts.
+// The numbers of the code's words, as docs/CODE.md has them: of instructions, registers, lengths and operations, and
+// what each operand of a word counts. Here they are as a word has them; `wide` has them as counts. Code may be
+// anything, so a word's number is matched where it is read, and these are constants and no enum.
 #![tactic(auto)]
 
+pub mod operations;
 pub mod wide;
+pub mod words;
 
 // A word is its number, and its three operands below OPERAND: one of the first counts FIRST, and so on.
 pub const OPERAND: u32 = 256;
@@ -82,9 +85,6 @@ pub const TRUTH: u32 = FIRST * REGISTERS;
 pub const PART_TRUTH: u32 = REGISTERS * REGISTERS;
 
 pub const PART_CLASS: u32 = 2 * PART_TRUTH;
-
-// The last of the classes, which are counted from 0. `tape_words::wide` names those that a condition's word carries.
-pub const BLANK: u32 = 4;
 
 // Lengths of the field.
 pub const NULL: u32 = 0;

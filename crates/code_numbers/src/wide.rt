@@ -1,4 +1,5 @@
-// The same numbers as counts, in which words are put together and places computed.
+// The same numbers as counts, in which words are put together and places computed. One set would not do: code words are
+// u32 and matched by these numbers, what words are made of is usize, and a pattern can't hold a conversion.
 pub const OPERAND: usize = crate::OPERAND as usize;
 
 pub const FIRST: usize = crate::FIRST as usize;

@@ -1,5 +1,5 @@
 -- The lengths of a pattern's templates and its first e-variable, as they are measured piece by piece.
-use Rattle.std.specs.Prelude.{ℕ, ◌+◌, ◌-◌, ◌≤◌, ◌<◌, ◌≡◌, Bool, true, false, List, length, drop}
+use Rattle.std.specs.Prelude.{ℕ, ◌+◌, ◌≤◌, ◌<◌, ◌≡◌, Bool, true, false, List, length, drop, Option, Some, None}
 use Rattle.meaning.specs.Allowed.{max_letters}
 use Rattle.meaning.specs.Choice.{Name}
 use Rattle.meaning.specs.Translation.{Shape, fixed, open₁, open₂, shape_of}
@@ -65,7 +65,6 @@ past_letter m size =
       variable = m.variable;
       letters = m.letters + 1;
       next = m.next + 1 + size;
-      more = true;
     }
 
 abbrev pub past_part : Pattern → ℕ → Pattern
@@ -75,11 +74,7 @@ past_part m size =
       variable = variable_place m.lengths.parts m.variable m.next;
       letters = m.letters;
       next = m.next + 1 + size;
-      more = true;
     }
-
-abbrev pub past_all : Pattern → Pattern
-past_all m = record { lengths = m.lengths; variable = m.variable; letters = m.letters; next = m.next; more = false }
 
 -- WHAT THEY COME TO
 
@@ -108,15 +103,18 @@ pub record Measured : Type 0 where
   pub variable : Name
   pub rest : List ℕ
 
-abbrev pub measuring : Bool → List ℕ → Pattern → Measured
-measuring true ws m =
+abbrev pub measuring : List ℕ → Pattern → Measured
+measuring ws m =
     let p = pattern_on_tape m.letters m.lengths.parts 0 (drop m.next ws) in
     record {
       lengths = measured_by m.lengths.parts m.lengths (shape_of p.value);
       variable = variable_by m.lengths.parts (head_name ws m.variable) (shape_of p.value);
       rest = p.rest;
     }
-measuring false ws m = record { lengths = m.lengths; variable = head_name ws m.variable; rest = drop m.next ws }
+
+-- what it has come to
+abbrev pub measured : List ℕ → Pattern → Measured
+measured ws m = record { lengths = m.lengths; variable = head_name ws m.variable; rest = drop m.next ws }
 
 -- at most 64 letters, and no further than the end of the tape
 pub record InPattern (ws : List ℕ) (m : Pattern) : Type 0 where
@@ -124,15 +122,20 @@ pub record InPattern (ws : List ℕ) (m : Pattern) : Type 0 where
   pub most : m.letters ≤ max_letters
   pub next : m.next ≤ length ws
 
+-- a step keeps what measuring comes to, and goes on
+pub record Measures (ws : List ℕ) (m r : Pattern) : Type 0 where
+  pub same : measuring ws r ≡ measuring ws m
+  pub within : InPattern ws r
+  pub ahead : m.next < r.next
+
+-- a piece leads on; where none does, nothing is left
+abbrev pub MeasuresOn : List ℕ → Pattern → Option Pattern → Type 0
+MeasuresOn ws m None = measured ws m ≡ measuring ws m
+MeasuresOn ws m (Some r) = Measures ws m r
+
 abbrev pub flag : Bool → ℕ
 flag true = 1
 flag false = 0
-
--- a step keeps what measuring comes to, and goes on
-pub record Measures (ws : List ℕ) (m r : Pattern) : Type 0 where
-  pub same : measuring r.more ws r ≡ measuring true ws m
-  pub within : InPattern ws r
-  pub ahead : length ws - r.next + flag r.more < length ws - m.next + 1
 
 -- the whole pattern is measured
 pub record MeasuresAll (ws : List ℕ) (start : ℕ) (r : Pattern) : Type 0 where

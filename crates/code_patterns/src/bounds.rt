@@ -1,11 +1,20 @@
 // Where an e-variable's part begins, and where what follows it begins.
-ghost use Rattle.std.specs.Prelude.{◌≡◌};
-ghost use Rattle.code_patterns.specs.Conditioning.{cell_of, bounds_in, bounds_by};
+ghost use Rattle.std.specs.Prelude.{◌≡◌, ◌%◌, ◌≤◌, ◌<◌, ◌^◌};
+ghost use Rattle.meaning.specs.Allowed.{max_letters};
+ghost use Rattle.meaning.specs.Instructions.{from_start, from_end, from_place};
+ghost use Rattle.meaning.specs.Packing.{test_word};
+ghost use Rattle.meaning.specs.Translation.{part_test};
+ghost use Rattle.tape_layout.specs.Tape.{class_count, kind_width};
+ghost use Rattle.tape_words.specs.Words.{class_in};
+ghost use Rattle.code_patterns.specs.Testing.{site_meant, site_in, total, expected_in};
+ghost use Rattle.code_patterns.specs.Conditioning.{bounds_meant, bounds_by};
 
 use crate::pattern::Lengths;
-use crate::symbols::Site;
-use code_numbers::wide::{FROM_END, FROM_PLACE, FROM_START};
+use crate::sites::{Register, Site};
+use code_numbers::wide::{PART_CLASS, PART_TRUTH, PREDICATE_PART, REGISTERS};
+use code_words::word;
 use tape_words::tape::Parts;
+use tape_words::wide::{CLASS_COUNT, CONDITION_TRUTH};
 
 // The part's first cell, and the first after it.
 #[derive(Clone, Copy)]
@@ -14,37 +23,56 @@ pub struct PartBounds {
     pub to: Site,
 }
 
-fn cell(register: usize, offset: usize) -> Site
-    ensures { result ≡ cell_of register offset }
-{
-    Site { register, offset }
+impl PartBounds {
+    // The test of the class and truth value that a condition's word carries.
+    pub fn predicate_word(self, carried: usize) -> usize
+        requires { carried < kind_width }
+        ensures { (result ≡ test_word (part_test (bounds_meant self) (class_in (carried % class_count))
+            (expected_in carried))) × (result < 2 ^ 32) }
+    {
+        let registers = self.from.register_number() + REGISTERS * self.to.register_number();
+        let truth = carried / CONDITION_TRUTH % 2;
+        let class = carried % CLASS_COUNT;
+        word(
+            PREDICATE_PART,
+            registers + PART_TRUTH * truth + PART_CLASS * class,
+            self.from.offset as usize,
+            self.to.offset as usize,
+        )
+    }
 }
 
-// `first` says whether it is the pattern's first.
-pub fn part_bounds(lengths: Lengths, first: bool) -> PartBounds
-    ensures { result ≡ bounds_in (bounds_by lengths.parts lengths first) }
+fn cell(register: Register, offset: usize) -> Site
+    requires { offset ≤ max_letters }
+    ensures { site_meant result ≡ site_in register offset }
 {
-    let parts = lengths.parts;
-    match parts {
+    Site {
+        register,
+        offset: offset as u8,
+    }
+}
+
+// `first` says whether it is the pattern's first: a `bool`, since it is what a comparison of two names answers.
+pub fn part_bounds(lengths: Lengths, first: bool) -> PartBounds
+    requires { total lengths ≤ max_letters }
+    ensures { bounds_meant result ≡ bounds_by lengths.parts lengths first }
+{
+    match lengths.parts {
         Parts::Zero => PartBounds {
-            from: cell(FROM_START, 0),
-            to: cell(FROM_START, 0),
+            from: cell(Register::Start, 0),
+            to: cell(Register::Start, 0),
         },
         Parts::One => PartBounds {
-            from: cell(FROM_START, lengths.first),
-            to: cell(FROM_END, lengths.second),
+            from: cell(Register::Start, lengths.first),
+            to: cell(Register::End, lengths.second),
         },
-        Parts::Two => {
-            if first {
-                return PartBounds {
-                    from: cell(FROM_START, lengths.first),
-                    to: cell(FROM_PLACE, 0),
-                };
-            }
-            PartBounds {
-                from: cell(FROM_PLACE, lengths.second),
-                to: cell(FROM_END, lengths.third),
-            }
-        }
+        Parts::Two if first => PartBounds {
+            from: cell(Register::Start, lengths.first),
+            to: cell(Register::Place, 0),
+        },
+        Parts::Two => PartBounds {
+            from: cell(Register::Place, lengths.second),
+            to: cell(Register::End, lengths.third),
+        },
     }
 }

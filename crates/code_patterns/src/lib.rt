@@ -4,5 +4,6 @@
 mod bounds;
 pub mod conditions;
 pub mod pattern;
-mod symbols;
+pub mod sites;
+pub mod symbols;
 pub mod tests;

@@ -1,10 +1,13 @@
 // The lengths of a pattern's templates, and where its first e-variable stands.
-ghost use Rattle.std.specs.Prelude.{◌≡◌, true, false, ◌+◌, ◌≤◌, ◌<◌, ◌^◌, length};
+ghost use Rattle.std.specs.Prelude.{◌≡◌, ◌+◌, ◌≤◌, ◌<◌, ◌^◌, length};
 ghost use Rattle.meaning.specs.Allowed.{max_letters};
+ghost use Rattle.meaning.specs.Choice.{same_bytes};
+ghost use Rattle.tape_words.specs.Words.{head_name};
 ghost use Rattle.code_patterns.specs.Scans.{one_more};
 ghost use Rattle.code_patterns.specs.Measuring.{longer_lengths, cut_lengths, variable_place, past_letter, past_part};
-ghost use Rattle.code_patterns.specs.Measuring.{past_all, InPattern, Measures, MeasuresAll};
+ghost use Rattle.code_patterns.specs.Measuring.{InPattern, MeasuresOn, MeasuresAll};
 
+use tape_words::names::name_is;
 use tape_words::tape::{Parts, Piece, name_size, piece_at};
 
 // How many e-variables there are, and the length of the template before, between and after them.
@@ -16,44 +19,36 @@ pub struct Lengths {
     pub third: usize,
 }
 
-// What is measured so far: `variable` is the place of the first e-variable, `next` the next word.
-#[derive(Clone, Copy)]
-pub struct Pattern {
-    pub lengths: Lengths,
-    pub variable: usize,
-    pub letters: usize,
-    pub next: usize,
-    pub more: bool,
-}
+impl Lengths {
+    // One letter more in the last template.
+    fn longer(self) -> Lengths
+        requires { self.first + self.second + self.third < max_letters }
+        ensures { result ≡ longer_lengths self }
+    {
+        match self.parts {
+            Parts::Zero => Lengths {
+                first: self.first + 1,
+                ..self
+            },
+            Parts::One => Lengths {
+                second: self.second + 1,
+                ..self
+            },
+            Parts::Two => Lengths {
+                third: self.third + 1,
+                ..self
+            },
+        }
+    }
 
-// One letter more in the last template.
-fn longer(lengths: Lengths) -> Lengths
-    requires { lengths.first + lengths.second + lengths.third < max_letters }
-    ensures { result ≡ longer_lengths lengths }
-{
-    let parts = lengths.parts;
-    let first = lengths.first;
-    let second = lengths.second;
-    let third = lengths.third;
-    match parts {
-        Parts::Zero => Lengths {
-            parts: Parts::Zero,
-            first: first + 1,
-            second,
-            third,
-        },
-        Parts::One => Lengths {
-            parts: Parts::One,
-            first,
-            second: second + 1,
-            third,
-        },
-        Parts::Two => Lengths {
-            parts: Parts::Two,
-            first,
-            second,
-            third: third + 1,
-        },
+    // The last template ends at an e-variable.
+    fn cut(self) -> Lengths
+        ensures { result ≡ cut_lengths self }
+    {
+        Lengths {
+            parts: one_more(self.parts),
+            ..self
+        }
     }
 }
 
@@ -62,22 +57,52 @@ pub fn one_more(parts: Parts) -> Parts
 {
     match parts {
         Parts::Zero => Parts::One,
-        Parts::One => Parts::Two,
-        Parts::Two => Parts::Two,
+        Parts::One | Parts::Two => Parts::Two,
     }
 }
 
-// The last template ends at an e-variable.
-fn cut(lengths: Lengths) -> Lengths
-    ensures { result ≡ cut_lengths lengths }
-{
-    let before = lengths.parts;
-    let parts = one_more(before);
-    Lengths {
-        parts,
-        first: lengths.first,
-        second: lengths.second,
-        third: lengths.third,
+// What is measured so far: `variable` is the place of the first e-variable, `next` the next word.
+#[derive(Clone, Copy)]
+pub struct Pattern {
+    pub lengths: Lengths,
+    pub variable: usize,
+    pub letters: usize,
+    pub next: usize,
+}
+
+impl Pattern {
+    // Its first e-variable has this name.
+    pub fn is_first(self, tape: &[u32], name: &[u32]) -> bool
+        ensures { result ≡ same_bytes name.now (head_name tape.now self.variable) }
+    {
+        name_is(tape, self.variable, name)
+    }
+
+    // Past a letter whose name is of so many words.
+    fn past_letter(self, size: usize) -> Pattern
+        requires third_bound { self.lengths.first + self.lengths.second + self.lengths.third < max_letters }
+        requires letters_lt_max_letters { (self.letters < max_letters) × (self.next + 1 + size < 2 ^ 62) }
+        ensures { result ≡ past_letter self size }
+    {
+        Pattern {
+            lengths: self.lengths.longer(),
+            letters: self.letters + 1,
+            next: self.next + 1 + size,
+            ..self
+        }
+    }
+
+    // Past an e-variable.
+    fn past_part(self, size: usize) -> Pattern
+        requires { self.next + 1 + size < 2 ^ 62 }
+        ensures { result ≡ past_part self size }
+    {
+        Pattern {
+            lengths: self.lengths.cut(),
+            variable: first_variable(self.lengths.parts, self.variable, self.next),
+            next: self.next + 1 + size,
+            ..self
+        }
     }
 }
 
@@ -87,69 +112,20 @@ fn first_variable(parts: Parts, variable: usize, next: usize) -> usize
 {
     match parts {
         Parts::Zero => next,
-        Parts::One => variable,
-        Parts::Two => variable,
+        Parts::One | Parts::Two => variable,
     }
 }
 
-fn measure_letter(m: Pattern, size: usize) -> Pattern
-    requires third_bound { m.lengths.first + m.lengths.second + m.lengths.third < max_letters }
-    requires letters_lt_max_letters { (m.letters < max_letters) × (m.next + 1 + size < 2 ^ 62) }
-    ensures { result ≡ past_letter m size }
-{
-    let old = m.lengths;
-    let lengths = longer(old);
-    Pattern {
-        lengths,
-        variable: m.variable,
-        letters: m.letters + 1,
-        next: m.next + 1 + size,
-        more: true,
-    }
-}
-
-fn measure_part(m: Pattern, size: usize) -> Pattern
-    requires { m.next + 1 + size < 2 ^ 62 }
-    ensures { result ≡ past_part m size }
-{
-    let old = m.lengths;
-    let parts = old.parts;
-    let variable = first_variable(parts, m.variable, m.next);
-    let lengths = cut(old);
-    Pattern {
-        lengths,
-        variable,
-        letters: m.letters,
-        next: m.next + 1 + size,
-        more: true,
-    }
-}
-
-fn measure_end(m: Pattern) -> Pattern
-    ensures { result ≡ past_all m }
-{
-    let lengths = m.lengths;
-    Pattern {
-        lengths,
-        variable: m.variable,
-        letters: m.letters,
-        next: m.next,
-        more: false,
-    }
-}
-
-fn measure_piece(tape: &[u32], m: Pattern) -> Pattern
+// One piece further; none where the pattern ends.
+fn measure_piece(tape: &[u32], m: Pattern) -> Option<Pattern>
     requires { InPattern tape.now m }
-    ensures { Measures tape.now m result }
+    ensures { MeasuresOn tape.now m result }
 {
-    let lengths = m.lengths;
-    let parts = lengths.parts;
-    let piece = piece_at(tape, m.next, m.letters, parts);
-    match piece {
-        Piece::Character => measure_letter(m, 0),
-        Piece::SVariable => measure_letter(m, name_size(tape, m.next)),
-        Piece::EVariable => measure_part(m, name_size(tape, m.next)),
-        Piece::PatternEnd => measure_end(m),
+    match piece_at(tape, m.next, m.letters, m.lengths.parts) {
+        Piece::Character => Some(m.past_letter(0)),
+        Piece::SVariable => Some(m.past_letter(name_size(tape, m.next))),
+        Piece::EVariable => Some(m.past_part(name_size(tape, m.next))),
+        Piece::PatternEnd => None,
     }
 }
 
@@ -169,10 +145,9 @@ pub fn measure(tape: &[u32], start: usize) -> Pattern
         variable: start,
         letters: 0,
         next: start,
-        more: true,
     };
-    while m.more {
-        m = measure_piece(tape, m);
+    while let Some(further) = measure_piece(tape, m) {
+        m = further;
     }
     m
 }

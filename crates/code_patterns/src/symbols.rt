@@ -1,70 +1,63 @@
-// The cell that a letter of a pattern is tested at.
-ghost use Rattle.std.specs.Prelude.{◌≡◌, ◌-◌, ◌≤◌, length};
-ghost use Rattle.meaning.specs.Instructions.{from_end};
-ghost use Rattle.code_patterns.specs.Testing.{site_numbers, last_of, site_at, found_site};
+// A pattern's different s-variables.
+ghost use Rattle.std.specs.Prelude.{◌≡◌, ◌≤◌, length};
+ghost use Rattle.meaning.specs.Allowed.{max_letters};
+ghost use Rattle.meaning.specs.Choice.{lookup, same_bytes};
+ghost use Rattle.meaning.specs.Translation.{value_number};
+ghost use Rattle.code_patterns.specs.Testing.{symbol_name, site_found, held, IsFirstNamed};
 
-use crate::pattern::Lengths;
-use arithmetic::less;
-use code_numbers::wide::{FROM_END, FROM_PLACE, FROM_START};
-use tape_words::tape::Parts;
+use crate::sites::{Register, Site};
+use tape_words::limits::MAX_LETTERS;
+use tape_words::names::name_is;
 
-// A cell: the register's number and the offset from it.
+// One of them: the place of a word on the tape before its name, and the cell at which it stands first.
 #[derive(Clone, Copy)]
-pub struct Site {
-    pub register: usize,
-    pub offset: usize,
+pub struct Symbol {
+    pub head: usize,
+    pub site: Site,
 }
 
-fn last(lengths: Lengths) -> usize
-    ensures { result ≡ last_of lengths.parts lengths }
+// Room for as many as a pattern may have letters. An array, since nothing is allocated.
+pub fn room() -> [Symbol; MAX_LETTERS]
+    ensures { length result ≡ max_letters }
 {
-    let parts = lengths.parts;
-    match parts {
-        Parts::Zero => lengths.first,
-        Parts::One => lengths.second,
-        Parts::Two => lengths.third,
-    }
-}
-
-fn from_end(lengths: Lengths, offset: usize) -> Site
-    ensures { result ≡ site_numbers (from_end (last_of lengths.parts lengths - offset)) }
-{
-    Site {
-        register: FROM_END,
-        offset: less(last(lengths), offset),
-    }
-}
-
-// The cell of a template's letter: `template` is how many e-variables come before it.
-pub fn site_of(lengths: Lengths, template: Parts, offset: usize) -> Site
-    ensures { result ≡ site_numbers (site_at lengths template offset) }
-{
-    let parts = lengths.parts;
-    match template {
-        Parts::Zero => Site {
-            register: FROM_START,
-            offset,
+    [Symbol {
+        head: 0,
+        site: Site {
+            register: Register::Start,
+            offset: 0,
         },
-        Parts::One => match parts {
-            Parts::Zero => from_end(lengths, offset),
-            Parts::One => from_end(lengths, offset),
-            Parts::Two => Site {
-                register: FROM_PLACE,
-                offset,
-            },
-        },
-        Parts::Two => from_end(lengths, offset),
+    }; MAX_LETTERS]
+}
+
+impl Symbol {
+    pub fn is_named(&self, tape: &[u32], name: &[u32]) -> bool
+        ensures { result ≡ same_bytes name.now (symbol_name tape.now self.now) }
+    {
+        name_is(tape, self.head, name)
     }
 }
 
-// The cell found under a number, as one number: p's own where none was found.
-pub fn found_site(sites: &[usize], found: usize) -> usize
-    requires { found ≤ length sites.now }
-    ensures { result ≡ found_site found sites.now }
+// The place of the first with this name.
+fn find_symbol(tape: &[u32], symbols: &[Symbol], name: &[u32]) -> Option<usize>
+    ensures { IsFirstNamed tape.now symbols.now name.now result }
 {
-    if found == 0 {
-        return 0;
-    }
-    let index = found - 1;
-    sites[index]
+    symbols
+        .iter()
+        .position(|symbol| symbol.is_named(tape, name))
+}
+
+// Its cell.
+pub fn find_site(tape: &[u32], symbols: &[Symbol], name: &[u32]) -> Option<Site>
+    ensures { site_found result ≡ lookup name.now (held tape.now symbols.now) }
+{
+    let k = find_symbol(tape, symbols, name)?;
+    Some(symbols[k].site)
+}
+
+// The number of the value that is stored for it.
+pub fn value_number(tape: &[u32], symbols: &[Symbol], name: &[u32]) -> usize
+    ensures number { result ≡ value_number (held tape.now symbols.now) name.now }
+    ensures bound { result ≤ length symbols.now }
+{
+    find_symbol(tape, symbols, name).unwrap_or(0)
 }

@@ -7,8 +7,10 @@ use native.Mathlib.Nat.{lt_of_not-le}
 use mathlib.Core.Path.{◌≡◌, refl, sym, ap, ap₂, ◌∙◌}
 use mathlib.Core.List.{List, [], ◌∷◌, ◌++◌, append-nil}
 use lib.ListN.{length, take, drop, set, length-drop, take-append-drop, drop_of_length-le}
-use lib.Seq.{sets, length-sets, set_comm, set_out, take_all, take-set-le, drop-set-add}
+use lib.Seq.{sets, length-sets, set-set, set_comm, set_out, take_all, take-set-le, drop-set-add}
 use Rattle.code_words.specs.Writing.{Wrote}
+use Rattle.code_words.specs.declared.CodeWriter.{CodeWriter}
+use Rattle.code_words.specs.Writer.{Written, Patched}
 
 -- TWO RUNS THAT DO NOT MEET
 
@@ -23,13 +25,23 @@ sets-comm l i (x ∷ xs) j ys h =
     sets-comm (set l i x) (suc i) xs j ys (omega arith) ∙ ap (λ (r : List ℕ). sets r (suc i) xs) (sym (set_before l i x j ys (omega arith)))
 
 -- two words, of which the second is patched once what follows is written
-pub wrote-patched : {a b c d : List ℕ} {i j k m : ℕ} {x y : ℕ} {words : List ℕ}
-    → Wrote a i (x ∷ []) b j → Wrote b (j + 1) words c k → Wrote c j (y ∷ []) d m → Wrote a i (x ∷ y ∷ words) d k
-wrote-patched {a} {b} {c} {i = i} {j} {x = x} {y} {words} v w p =
+wrote-patched : {a b c d f : List ℕ} {i j k m : ℕ} {x y z : ℕ} {words : List ℕ}
+    → Wrote a i (x ∷ []) b j → Wrote b j (z ∷ []) c k → Wrote c k words d m → f ≡ sets d j (y ∷ []) → Wrote a i (x ∷ y ∷ words) f m
+wrote-patched {a} {b} {c} {i = i} {j} {x = x} {y} {z} {words} v u w p =
     let e : j ≡ suc i = omega (arith, v.next) in
+    let g : suc j ≡ suc (suc i) = omega arith in
     record {
-      left = p.left ∙ ap (λ (r : List ℕ). set r j y) w.left ∙ set_before b j y (j + 1) words (omega arith) ∙ rw (v.left, add-one, e);
-      next = omega (arith, v.next, w.next);
+      left = p ∙ ap (λ (r : List ℕ). set r j y) w.left ∙ set_before c j y _ words (omega (arith, u.next))
+          ∙ rw (u.left, set-set, u.next, add-one, v.left, e);
+      next = omega (arith, v.next, u.next, w.next);
+    }
+
+pub written-patched : {a b c d f : CodeWriter} {x y z : ℕ} {words : List ℕ}
+    → Written a (x ∷ []) b → Written b (z ∷ []) c → Written c words d → Patched d b.at y f → Written a (x ∷ y ∷ words) f
+written-patched v u w p =
+    record {
+      same = p.same ∙ w.same ∙ u.same ∙ v.same;
+      put = rw p.stays (wrote-patched v.put u.put w.put p.cells);
     }
 
 -- A PART OF WHAT IS LENT

@@ -20,7 +20,11 @@ levels_at ws = levels_in 0 0 0 (drop 1 (conditions_at ws).rest)
 
 abbrev pub sentence_on_tape : List ℕ → Sentence
 sentence_on_tape ws =
-    record { pattern = (pattern_at ws).value; conditions = (conditions_at ws).value; expression = (levels_at ws).current }
+    record {
+      pattern = (pattern_at ws).value;
+      conditions = (conditions_at ws).value;
+      expression = (levels_at ws).current;
+    }
 
 -- SENTENCES, FUNCTIONS, THE TABLE
 

@@ -6,12 +6,11 @@ ghost use Rattle.code_words.specs.Writing.{Wrote};
 ghost use Rattle.code_table.specs.Leaves.{code_of};
 ghost use Rattle.code_table.specs.Declaring.{HeadsInside, HeadsOn, HeadsAll, EntryAll, FunctionsAll};
 
-use arithmetic::lesser;
 use code_sentences::write_function;
 use code_words::put;
 use tape_words::limits::MAX_FUNCTIONS;
 use tape_words::names::find_recoverer;
-use tape_words::tape::{name_size, of_kind, room, word_at};
+use tape_words::tape::{name_at, of_kind, room, word_at};
 use tape_words::wide::FUNCTION_WORD;
 
 fn is_function(word: usize) -> bool
@@ -36,16 +35,14 @@ fn note_head(tape: &[u32], i: usize, heads: &mut [usize], count: usize) -> usize
     count
 }
 
-// The places of the functions' words.
+// The places of the functions' words, and how many they are: nothing is allocated, so they go into a lent array.
 pub fn find_heads(tape: &[u32], heads: &mut [usize]) -> usize
     requires { length heads.old ≡ max_functions }
     ensures { HeadsAll tape.now heads.new result }
 {
     let mut count = 0;
-    let mut i = 0;
-    while i < tape.len() {
+    for i in 0..tape.len() {
         count = note_head(tape, i, heads, count);
-        i += 1;
     }
     count
 }
@@ -59,12 +56,11 @@ fn write_entry(tape: &[u32], heads: &[usize], k: usize, part: &mut [u32], at: us
     ensures { EntryAll tape.now heads.now k part.old at part.new result }
 {
     let head = heads[k];
-    let name = head + 1;
-    let size = name_size(tape, head);
-    let start = name + size;
-    let recoverer = find_recoverer(tape, heads, name, size);
+    let name = name_at(tape, head);
+    let start = head + 1 + name.len();
+    let recoverer = find_recoverer(tape, heads, name);
     put(part, 0, at);
-    let from = lesser(at - (k + 1), part.len());
+    let from = (at - (k + 1)).min(part.len());
     let words = write_function(tape, heads, start, recoverer, &mut part[from..]);
     at + words
 }
@@ -76,22 +72,18 @@ fn write_functions(tape: &[u32], heads: &[usize], code: &mut [u32]) -> usize
 {
     let count = heads.len();
     let mut at = put(code, 0, count) + count;
-    let mut k = 0;
-    while k < count {
-        let entry = lesser(k + 1, code.len());
+    for k in 0..count {
+        let entry = (k + 1).min(code.len());
         at = write_entry(tape, heads, k, &mut code[entry..], at);
-        k += 1;
     }
     at
 }
 
-// The code of so many words of a tape.
-pub fn write_table(tape: &[u32], words: usize, code: &mut [u32]) -> usize
-    requires { words ≤ length tape.now }
-    ensures { Wrote code.old 0 (code_of (take words tape.now)) code.new result }
+// The code of a tape.
+pub fn write_table(tape: &[u32], code: &mut [u32]) -> usize
+    ensures { Wrote code.old 0 (code_of tape.now) code.new result }
 {
-    let used = &tape[..words];
     let mut heads = room();
-    let count = find_heads(used, &mut heads);
-    write_functions(used, &heads[..count], code)
+    let count = find_heads(tape, &mut heads);
+    write_functions(tape, &heads[..count], code)
 }

@@ -1,3 +1,3 @@
 -- The laws of writing words, and of clearing them.
-pub mod Clearing
 pub mod Stores
+pub mod Writers

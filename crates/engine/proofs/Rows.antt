@@ -14,6 +14,9 @@ use Rattle.meaning.proofs.Rows.Starred.{result, abc}
 use Rattle.meaning.proofs.Rows.Packed.{words_r}
 use Rattle.meaning.proofs.Rows.Leaving.{cells, lent, leaves}
 use Rattle.meaning.proofs.Rows.Computing.{computing}
+use Rattle.std.specs.Prelude.{Ok, Err}
+use Rattle.answers.specs.declared.Refusal.TheVariants.{TableTooLong}
+use Rattle.answers.specs.declared.Ending.TheVariants.{NoSuchStart}
 use Rattle.engine.specs.TableRuns.{TableRun, table_run, report_words}
 
 -- a table's text, the words lent for its code, the start, the text and the cells; what they come to with five steps
@@ -68,5 +71,8 @@ unfolding computing hold
 table_runs = refl
 
 -- answer, function, steps, lengths of the text and of the emissions
-pub reported : report_words (record { answer = 1; place = 2; function = 3; steps = 4; text = 5; emissions = 6 }) ≡ 1 ∷ 3 ∷ 4 ∷ 5 ∷ 6 ∷ []
+pub reported : report_words (Ok (record { ending = NoSuchStart; function = 3; steps = 4; text = 5; emissions = 6 })) ≡ 9 ∷ 3 ∷ 4 ∷ 5 ∷ 6 ∷ []
 reported = refl
+
+pub reported-refused : report_words (Err (record { refusal = TableTooLong; place = 2 })) ≡ 1 ∷ 0 ∷ 0 ∷ 0 ∷ 0 ∷ []
+reported-refused = refl

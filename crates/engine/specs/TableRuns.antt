@@ -1,6 +1,6 @@
 -- What reading a table text, translating it and running its code comes to, for every text: demand 3 from table bytes to
 -- lent cells.
-use Rattle.std.specs.Prelude.{ℕ, ◌≡◌, Bool, List, [], ◌∷◌, leb, ltb, length}
+use Rattle.std.specs.Prelude.{ℕ, ◌≡◌, Bool, List, [], ◌∷◌, leb, ltb, length, true, Result, Ok, Err, IfErr}
 use Rattle.meaning.specs.Choice.{Bytes, pick, both}
 use Rattle.meaning.specs.Answers.{no_such_start, text_too_long, buffer_too_short}
 use Rattle.meaning.specs.Tree.{Table}
@@ -11,7 +11,9 @@ use Rattle.meaning.specs.Leaving.{Cells, Leaving, zeros, padded, after_run, room
 use Rattle.meaning.specs.Leaving.{refused_run as unrun}
 use Rattle.meaning.specs.Entries.{run_answer}
 use Rattle.meaning.specs.Demanded.{demanded}
-use Rattle.engine.specs.declared.Report.{Report}
+use Rattle.answers.specs.declared.Fault.{Fault}
+use Rattle.answers.specs.Numbers.{refusal_number, ending_number, is_refusal}
+use Rattle.run_actions.specs.declared.registers.Ran.{Ran}
 
 -- the place of the table's fault, the code buffer afterwards, and what is answered and left in the cells
 pub record TableRun : Type 0 where
@@ -47,14 +49,22 @@ table_run (accepted t) room start text cells allowance =
     let ran = with_code t room start text cells allowance in
     pick (leb (length (pack (translate t))) room) ran (without_code buffer_too_short 0 room cells)
 
--- a report in the order of an exported run's answer
-abbrev pub report_words : Report → List ℕ
-report_words r = r.answer ∷ r.function ∷ r.steps ∷ r.text ∷ r.emissions ∷ []
+-- what a table's run comes to, in the order of an exported run's answer
+abbrev pub report_words : Result Ran Fault → List ℕ
+report_words (Ok ran) = ending_number ran.ending ∷ ran.function ∷ ran.steps ∷ ran.text ∷ ran.emissions ∷ []
+report_words (Err fault) = refusal_number fault.refusal ∷ 0 ∷ 0 ∷ 0 ∷ 0 ∷ []
 
--- what is reported, the counts, the code buffer and the cells are those of a table's run
-pub record Reports (r : Report) (counts : List ℕ) (words : Words) (after : Cells) (should : TableRun) : Type 0 where
+-- the place of the table's fault
+abbrev pub report_place : Result Ran Fault → ℕ
+report_place (Ok ran) = 0
+report_place (Err fault) = fault.place
+
+-- what is reported, the counts, the code buffer and the cells are those of a table's run, and an error is a table's or
+-- its code's
+pub record Reports (r : Result Ran Fault) (counts : List ℕ) (words : Words) (after : Cells) (should : TableRun) : Type 0 where
   pub answer : report_words r ≡ run_answer should.leaving.result
   pub counted : counts ≡ should.leaving.result.counts
-  pub place : r.place ≡ should.place
+  pub place : report_place r ≡ should.place
+  pub refused : IfErr r (λ fault. is_refusal (refusal_number fault.refusal) ≡ true)
   pub code : words ≡ should.code
   pub cells : after ≡ should.leaving.cells

@@ -3,12 +3,12 @@ ghost use Rattle.std.specs.Prelude.{◌≡◌};
 ghost use Rattle.meaning.specs.Reading.{read};
 ghost use Rattle.meaning.specs.Entries.{flat_answer};
 
+use crate::answer_words;
 use engine_tables::flat_table;
 
 // Number, place, functions: 19 with the place of the name of the leftmost declared call that is no tail call.
 pub fn refal0_flat(table: &[u8], answer: &mut [u64; 3])
     ensures { answer.new ≡ flat_answer (read table.now) }
 {
-    let told = flat_table(table);
-    *answer = [told.number, told.place as u64, told.count as u64];
+    *answer = answer_words(flat_table(table));
 }

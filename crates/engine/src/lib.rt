@@ -9,20 +9,31 @@ ghost use Rattle.meaning.specs.Reading.{read};
 ghost use Rattle.meaning.specs.Entries.{read_answer, written, listed, translated};
 ghost use Rattle.meaning.specs.Leaving.{leaving};
 ghost use Rattle.run_code.specs.Leaving.{cells};
+ghost use Rattle.engine_tables.specs.Told.{told_words};
 ghost use Rattle.engine.specs.Told.{Runs};
 ghost use Rattle.engine.specs.TableRuns.{Reports, table_run};
 
 use crate::profile::refal0_profile;
-use answers::ending_number;
+use answers::Fault;
 use engine_tables::{list_table, read_table, translate_table};
 pub use run_actions::frames::COUNTED;
+pub use run_actions::registers::Ran;
+
+// Number, place, and what is counted: functions, bytes of the listing or words of code.
+fn answer_words(told: Result<usize, Fault>) -> [u64; 3]
+    ensures { result ≡ told_words told }
+{
+    match told {
+        Ok(count) => [0, 0, count as u64],
+        Err(fault) => [u64::from(fault.refusal), fault.place as u64, 0],
+    }
+}
 
 // Number, place, functions.
 pub fn refal0_read(table: &[u8], answer: &mut [u64; 3])
     ensures { answer.new ≡ read_answer (read table.now) }
 {
-    let told = read_table(table);
-    *answer = [told.number, told.place as u64, told.count as u64];
+    *answer = answer_words(read_table(table));
 }
 
 // Number, place, length of the listing.
@@ -30,8 +41,7 @@ pub fn refal0_list(table: &[u8], listing: &mut [u8], answer: &mut [u64; 3])
     ensures { written answer.new listing.new ≡
         listed (read table.now) listing.old }
 {
-    let told = list_table(table, listing);
-    *answer = [told.number, told.place as u64, told.count as u64];
+    *answer = answer_words(list_table(table, listing));
 }
 
 // Number, place, words of code.
@@ -39,8 +49,7 @@ pub fn refal0_translate(table: &[u8], code: &mut [u32], answer: &mut [u64; 3])
     ensures { written answer.new code.new ≡
         translated (read table.now) (length code.old) }
 {
-    let told = translate_table(table, code);
-    *answer = [told.number, told.place as u64, told.count as u64];
+    *answer = answer_words(translate_table(table, code));
 }
 
 // Room for a run's counts, where nobody asks for them.
@@ -78,19 +87,8 @@ pub fn refal0_run(
     );
 }
 
-// What is answered, the place of a refused table's fault, and what a run reports: the function that fits nothing, the
-// steps, and the lengths of the text on out and of the emissions.
-#[derive(Drop)]
-pub struct Report {
-    pub answer: u64,
-    pub place: usize,
-    pub function: usize,
-    pub steps: u32,
-    pub text: usize,
-    pub emissions: usize,
-}
-
-// Translates a table and runs its code. `counts` tells how often each function was applied.
+// Translates a table and runs its code; an error is that of the table, or of code that is longer than `code`. `counts`
+// tells how often each function was applied.
 pub fn translate_and_run(
     table: &[u8],
     code: &mut [u32],
@@ -101,35 +99,16 @@ pub fn translate_and_run(
     record: &mut [u8],
     allowance: u32,
     counts: &mut [u64; COUNTED],
-) -> Report
+) -> Result<Ran, Fault>
     ensures { Reports result counts.new code.new
         (cells stack_in.new stack_out.new «record».new)
         (table_run (read table.now) (length code.old) start text.now
         (cells stack_in.old stack_out.old «record».old) allowance) }
 {
-    let told = translate_table(table, code);
-    let number = told.number;
-    if number != 0 {
-        *counts = [0u64; COUNTED];
-        return Report {
-            answer: number,
-            place: told.place,
-            function: 0,
-            steps: 0,
-            text: 0,
-            emissions: 0,
-        };
-    }
+    *counts = [0u64; COUNTED];
+    translate_table(table, code)?;
     let ran = run_code::run(
         code, start, text, stack_in, stack_out, record, allowance, counts,
     );
-    let ending = ran.ending;
-    Report {
-        answer: ending_number(ending),
-        place: 0,
-        function: ran.function,
-        steps: ran.steps,
-        text: ran.text,
-        emissions: ran.emissions,
-    }
+    Ok(ran)
 }

@@ -3,7 +3,6 @@ ghost use Rattle.meaning.specs.Leaving.{leaving};
 ghost use Rattle.run_code.specs.Leaving.{cells};
 ghost use Rattle.engine.specs.Told.{Profiles};
 
-use answers::ending_number;
 use run_actions::frames::COUNTED;
 
 // As `refal0_run`, and in `counts` the applications of functions 1 to 64.
@@ -28,7 +27,7 @@ pub fn refal0_profile(
     );
     let ending = ran.ending;
     *answer = [
-        ending_number(ending),
+        u64::from(ending),
         ran.function as u64,
         ran.steps as u64,
         ran.text as u64,

@@ -2,7 +2,7 @@
 use Prim.Native.Nat.{ℕ, suc, ◌≤◌}
 use native.Mathlib.Omega.{arith}
 use mathlib.Core.Path.{◌≡◌, refl, ap}
-use mathlib.Core.Bool.{true}
+use mathlib.Core.Bool.{true, true≢false}
 use mathlib.Core.List.{List, [], ◌∷◌}
 use lib.Dec.{T}
 use mir.Val.{Fits}
@@ -13,7 +13,12 @@ use Rattle.meaning.specs.Choice.{Bytes, every}
 use Rattle.meaning.specs.Allowed.{max_table, is_byte, allowed}
 use Rattle.meaning.specs.Reading.{Read, accepted, refused, read}
 use Rattle.read_table.specs.declared.Reading.{Reading}
-use Rattle.read_table.specs.Reads.{LongEnough, Reads}
+use Rattle.read_table.specs.Reads.{LongEnough, Reads, words_read}
+use Rattle.std.specs.Prelude.{Result}
+use Rattle.answers.specs.declared.Fault.{Fault}
+use Rattle.answers.specs.declared.Refusal.{Refusal}
+use Rattle.answers.specs.Numbers.{refusal_number}
+use Rattle.answers.proofs.Refused.{not-accepted}
 use Rattle.meaning.proofs.Laws.Choosing.{true-passed}
 use Rattle.meaning_accepting.proofs.Reading.Basics.{both_true}
 use Rattle.meaning_accepting.proofs.Reading.Accepted.{accepted-allows}
@@ -41,6 +46,22 @@ read_known text h = by (read text) refl
         let low = (refusal-numbers ((refused-exactly text (bytes-known text h) number place).0 e)).0 in
         λ z. omega arith
 
+-- a refusal's number is not 0
+pub refuses : (refusal : Refusal) → refusal_number refusal ≡ 0 → ⊥
+refuses refusal e = true≢false (rw e at (not-accepted refusal))
+
+-- a refusal is 1 to 8
+abbrev pub Numbered : Read → Type 0
+Numbered (accepted t) = Unit {0}
+Numbered (refused number place) = (1 ≤ number) × (number ≤ 8)
+
+pub read-numbered : (text : Bytes) → AreBytes text → Numbered (read text)
+read-numbered text h = by (read text) refl
+  where
+    by : (x : Read) → read text ≡ x → Numbered x
+    by (accepted t) e = tt
+    by (refused number place) e = refusal-numbers ((refused-exactly text (bytes-known text h) number place).0 e)
+
 -- TAPES
 
 -- a short one, for a text that is no longer
@@ -52,5 +73,5 @@ pub long-tape : {text : Bytes} {tape : List ℕ} → length tape ≡ max_table �
 long-tape e = record { room = λ low. omega arith }
 
 -- its words lie on the tape
-pub read-within : {text : Bytes} {r : Reading} {tape' : List ℕ} → Reads text r tape' → r.words ≤ length tape'
-read-within {text} {r} {tape'} reads = omega (arith, length-take r.words tape', ap length reads.tape, reads.words)
+pub read-within : {text : Bytes} {r : Result Reading Fault} {tape' : List ℕ} → Reads text r tape' → words_read r ≤ length tape'
+read-within {text} {r} {tape'} reads = omega (arith, length-take (words_read r) tape', ap length reads.tape, reads.words)

@@ -2,81 +2,69 @@
 #![tactic(auto)]
 
 ghost use Rattle.std.specs.Prelude.{◌≡◌, ◌+◌, ◌<◌, length};
-ghost use Rattle.byte_writing.specs.Put.{Put, farthest};
+ghost use Rattle.byte_writing.specs.Put.{farthest};
+ghost use Rattle.byte_writing.specs.Wrote.{Wrote};
 ghost use Rattle.list_strings.specs.Steps.{longest_step, WroteStep};
 ghost use Rattle.list_items.specs.Steps.{ending, separator, longest_predicate, class_text, letter_text, truth_text};
 ghost use Rattle.list_items.specs.Steps.{condition_step, parted_step, ended_step};
 
-use byte_writing::{put, put_all};
-use list_strings::{State, Stepped, is_quoted, put_gap};
+use byte_writing::ByteWriter;
+use list_strings::{State, put_gap};
 use tape_words::wide::{
     ALPHABETIC, CLASS_COUNT, CONDITION_PART, CONDITION_SIZE, CONDITION_TRUTH, DIGIT, LOWER, UPPER,
 };
 
 // The closing quote, where a string is open.
-fn put_ending(state: State, out: &mut [u8], at: usize) -> usize
-    requires { at < farthest }
-    ensures { Put at out.old (ending state) result out.new }
+fn put_ending(writer: &mut ByteWriter, state: State)
+    requires { writer.old.at < farthest }
+    ensures { Wrote writer.old (ending state) writer.new }
 {
-    if is_quoted(state) {
-        return put(out, at, b'\'');
+    if state.is_quoted() {
+        writer.put(b'\'');
     }
-    at
 }
 
 // What stands between two items.
-fn put_parting(state: State, out: &mut [u8], at: usize) -> usize
-    requires { at + 1 < farthest }
-    ensures { Put at out.old (separator state) result out.new }
+fn put_parting(writer: &mut ByteWriter, state: State)
+    requires { writer.old.at + 1 < farthest }
+    ensures { Wrote writer.old (separator state) writer.new }
 {
-    let next = put_ending(state, out, at);
-    put_gap(state, out, next)
+    put_ending(writer, state);
+    put_gap(writer, state);
 }
 
 // A byte after the blank between items.
-pub fn list_parted(state: State, byte: u8, after: State, out: &mut [u8], at: usize) -> Stepped
-    requires { at + 2 < farthest }
-    ensures { WroteStep at out.old (parted_step state byte after) result out.new }
+pub fn list_parted(writer: &mut ByteWriter, state: State, byte: u8, after: State) -> State
+    requires { writer.old.at + 2 < farthest }
+    ensures { WroteStep writer.old (parted_step state byte after) result writer.new }
 {
-    let parted = put_parting(state, out, at);
-    let next = put(out, parted, byte);
-    Stepped {
-        state: after,
-        at: next,
-    }
+    put_parting(writer, state);
+    writer.put(byte);
+    after
 }
 
 // Bytes right after an item.
-pub fn list_ended(state: State, text: &[u8], after: State, out: &mut [u8], at: usize) -> Stepped
-    requires { at + length text.now + 1 < farthest }
-    ensures { WroteStep at out.old (ended_step state text.now after) result out.new }
+pub fn list_ended(writer: &mut ByteWriter, state: State, text: &[u8], after: State) -> State
+    requires { writer.old.at + length text.now + 1 < farthest }
+    ensures { WroteStep writer.old (ended_step state text.now after) result writer.new }
 {
-    let ended = put_ending(state, out, at);
-    let next = put_all(out, ended, text);
-    Stepped {
-        state: after,
-        at: next,
-    }
+    put_ending(writer, state);
+    writer.put_all(text);
+    after
 }
 
-// A predicate's name.
-fn put_class(class: usize, out: &mut [u8], at: usize) -> usize
-    requires { at + longest_predicate < farthest }
-    ensures { Put at out.old (class_text class) result out.new }
+// A predicate's name, by the number that its class has on the tape.
+fn put_class(writer: &mut ByteWriter, class: usize)
+    requires { writer.old.at + longest_predicate < farthest }
+    ensures { Wrote writer.old (class_text class) writer.new }
 {
-    if class == DIGIT {
-        return put_all(out, at, b"IsDigit");
+    match class {
+        DIGIT => writer.put_all(b"IsDigit"),
+        UPPER => writer.put_all(b"IsUpper"),
+        LOWER => writer.put_all(b"IsLower"),
+        ALPHABETIC => writer.put_all(b"IsLetter"),
+        _ => writer.put_all(b"IsBlank"),
     }
-    if class == UPPER {
-        return put_all(out, at, b"IsUpper");
-    }
-    if class == LOWER {
-        return put_all(out, at, b"IsLower");
-    }
-    if class == ALPHABETIC {
-        return put_all(out, at, b"IsLetter");
-    }
-    put_all(out, at, b"IsBlank")
 }
 
 fn truth_byte(bit: usize) -> u8
@@ -86,28 +74,23 @@ fn truth_byte(bit: usize) -> u8
 }
 
 // What stands before the identifier of a condition's variable: a blank and the letter of its kind.
-fn put_letter(bit: usize, out: &mut [u8], at: usize) -> usize
-    requires { at + 2 < farthest }
-    ensures { Put at out.old (letter_text bit) result out.new }
+fn put_letter(writer: &mut ByteWriter, bit: usize)
+    requires { writer.old.at + 2 < farthest }
+    ensures { Wrote writer.old (letter_text bit) writer.new }
 {
-    if bit == 1 {
-        return put_all(out, at, b" e");
-    }
-    put_all(out, at, b" s")
+    writer.put(b' ');
+    writer.put(if bit == 1 { b'e' } else { b's' });
 }
 
 // A condition up to its variable's identifier.
-pub fn list_condition(state: State, carried: usize, out: &mut [u8], at: usize) -> Stepped
-    requires { at + longest_step < farthest }
-    ensures { WroteStep at out.old (condition_step state carried) result out.new }
+pub fn list_condition(writer: &mut ByteWriter, state: State, carried: usize) -> State
+    requires { writer.old.at + longest_step < farthest }
+    ensures { WroteStep writer.old (condition_step state carried) result writer.new }
 {
-    let ended = put_ending(state, out, at);
-    let opened = put_all(out, ended, b", <");
-    let named = put_class(carried % CLASS_COUNT, out, opened);
-    let next = put_letter(carried / CONDITION_PART % 2, out, named);
+    put_ending(writer, state);
+    writer.put_all(b", <");
+    put_class(writer, carried % CLASS_COUNT);
+    put_letter(writer, carried / CONDITION_PART % 2);
     let truth = truth_byte(carried / CONDITION_TRUTH % 2);
-    Stepped {
-        state: State::Condition(carried / CONDITION_SIZE, truth),
-        at: next,
-    }
+    State::Condition(carried / CONDITION_SIZE, truth)
 }

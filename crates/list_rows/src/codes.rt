@@ -59,10 +59,8 @@ fn every_byte() -> [u32; 260] {
     row[0] = 0x801;
     row[1] = 70;
     row[2] = 0x400;
-    let mut byte = 0;
-    while byte < 256 {
-        row[3 + byte] = byte as u32;
-        byte += 1;
+    for byte in 0..256u32 {
+        row[3 + byte as usize] = byte;
     }
     row[259] = 0x700;
     row

@@ -1,12 +1,12 @@
 -- What a character adds to the listing, and how the listing stands after it.
-use Rattle.std.specs.Prelude.{ℕ, ◌≡◌, Bool, true, false, List, [], ◌∷◌, ◌++◌}
+use Rattle.std.specs.Prelude.{ℕ, ◌≡◌, Bool, true, false, [], ◌∷◌, ◌++◌}
 use Rattle.meaning.specs.Choice.{Bytes, pick}
 use Rattle.meaning.specs.Listing.{Quoted, unquoted, in_string, after_code, character_text, is_coded}
-use Rattle.byte_writing.specs.Put.{Put}
+use Rattle.byte_writing.specs.declared.ByteWriter.{ByteWriter}
+use Rattle.byte_writing.specs.Wrote.{Wrote}
 use Rattle.list_strings.specs.declared.State.{State}
 use Rattle.list_strings.specs.declared.State.TheVariants.{Start, Plain, InString, AfterCode, Name, Condition}
 use Rattle.list_strings.specs.declared.State.TheVariants.{Header}
-use Rattle.list_strings.specs.declared.Stepped.{Stepped}
 
 -- the bytes that a word adds, and how the listing stands after it
 pub record Step : Type 0 where
@@ -59,7 +59,7 @@ quoting s = pick (is_quoted s) [] (gap s ++ 39 ∷ [])
 abbrev pub character_step : State → ℕ → Step
 character_step s c = step (quoting s ++ character_text (quoted_in s) c) (pick (is_coded (quoted_in s) c) AfterCode InString)
 
--- what a step leaves, given the place, the buffer before and after, and what is handed back
-pub record WroteStep (at : ℕ) (old : List ℕ) (s : Step) (r : Stepped) (new : List ℕ) : Type 0 where
-  pub state : r.state ≡ s.state
-  pub put : Put at old s.bytes r.at new
+-- what a step leaves of a writer, and how the listing stands after it
+pub record WroteStep (old : ByteWriter) (s : Step) (after : State) (new : ByteWriter) : Type 0 where
+  pub state : after ≡ s.state
+  pub wrote : Wrote old s.bytes new

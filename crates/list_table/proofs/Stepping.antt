@@ -2,7 +2,7 @@
 use Prim.Native.Nat.{ℕ, zero, suc, ◌+◌, ◌*◌, ◌≤◌, ◌<◌}
 use native.Mathlib.Omega.{arith}
 use native.Mathlib.Numerals.{add-one}
-use mathlib.Core.Path.{◌≡◌, refl, ◌∙◌}
+use mathlib.Core.Path.{◌≡◌, refl}
 use mathlib.Core.List.{List, [], ◌∷◌}
 use lib.ListN.{length, drop, get_or, drop_of_length-le}
 use lib.Seq.{drop-cons}
@@ -12,12 +12,12 @@ use denote.Enum.Declared.{tag_of}
 use Rattle.list_strings.specs.contracts.State as state
 use Rattle.list_strings.specs.declared.State.{State}
 use Rattle.list_strings.specs.declared.State.TheVariants.{Start, Plain, InString, AfterCode, Name, Condition, Header}
-use Rattle.list_strings.specs.declared.Stepped.{Stepped}
-use Rattle.byte_writing.specs.Put.{Put}
+use Rattle.byte_writing.specs.declared.ByteWriter.{ByteWriter}
+use Rattle.byte_writing.specs.Wrote.{Wrote}
 use Rattle.list_strings.specs.Steps.{WroteStep}
 use Rattle.list_items.specs.Steps.{parted_step}
 use Rattle.list_table.specs.Words.{kind_step, item_step, word_step, list_from}
-use Rattle.byte_writing.proofs.Writing.{put-none, put_then, put-length}
+use Rattle.byte_writing.proofs.Writing.{wrote-none, wrote_then}
 use Rattle.list_table.proofs.Sizes.{widest, word_size}
 
 -- where no name is being copied a word is an item
@@ -57,25 +57,20 @@ other-kind s kind n o =
     )
 
 -- i words are listed: to write the rest from here is to write the whole from the start
-pub record Lists (out₀ words out : List ℕ) (i at : ℕ) (s : State) : Type 0 where
-  pub low : at ≤ widest * i
-  pub same : length out ≡ length out₀
-  pub rest : {next : ℕ} {new : List ℕ} → Put at out (list_from s (drop i words)) next new → Put 0 out₀ (list_from Start words) next new
+pub record Lists (first : ByteWriter) (words : List ℕ) (w : ByteWriter) (i : ℕ) (s : State) : Type 0 where
+  pub low : w.at ≤ widest * i
+  pub rest : {last : ByteWriter} → Wrote w (list_from s (drop i words)) last → Wrote first (list_from Start words) last
 
-pub lists-none : {out₀ words : List ℕ} → Lists out₀ words out₀ 0 0 Start
-lists-none = record { low = omega arith; same = refl; rest = λ p. p }
-
-pub lists-word : {out₀ words out : List ℕ} {i at : ℕ} {s : State} {r : Stepped} {out₁ : List ℕ} → Lists out₀ words out i at s → i < length words →
-    WroteStep at out (word_step s (get_or words i 0)) r out₁ → Lists out₀ words out₁ (i + 1) r.at r.state
+pub lists-word : {first w next : ByteWriter} {words : List ℕ} {i : ℕ} {s t : State} → Lists first words w i s → i < length words →
+    WroteStep w (word_step s (get_or words i 0)) t next → Lists first words next (i + 1) t
 unfolding list_from
 lists-word {words = words} {i = i} {s = s} l h w =
     record {
-      low = omega (arith, l.low, w.put.place, word_size s (get_or words i 0));
-      same = put-length w.put ∙ l.same;
-      rest = λ p. l.rest (rw (drop-cons words i 0 h) (put_then w.put (rw (add-one i, w.state) at p)));
+      low = omega (arith, l.low, w.wrote.put.place, word_size s (get_or words i 0));
+      rest = λ p. l.rest (rw (drop-cons words i 0 h) (wrote_then w.wrote (rw (add-one i, w.state) at p)));
     }
 
-pub lists-all : {out₀ words out : List ℕ} {i at : ℕ} {s : State} → Lists out₀ words out i at s → length words ≤ i →
-    Put 0 out₀ (list_from Start words) at out
+pub lists-all : {first w : ByteWriter} {words : List ℕ} {i : ℕ} {s : State} → Lists first words w i s → length words ≤ i →
+    Wrote first (list_from Start words) w
 unfolding list_from
-lists-all {words = words} l h = l.rest (rw (drop_of_length-le words h) put-none)
+lists-all {words = words} l h = l.rest (rw (drop_of_length-le words h) wrote-none)

@@ -1,6 +1,6 @@
 -- The listing word by word: what each word of a tape adds to the listing, and how the listing stands after it. Listing
 -- the tape of a tree so gives meaning's listing of the tree (proofs/Lists).
-use Rattle.std.specs.Prelude.{ℕ, pred, ◌/◌, ◌%◌, ◌≤◌, List, [], ◌∷◌, ◌++◌, ltb, leb, eqb, length}
+use Rattle.std.specs.Prelude.{ℕ, pred, ◌/◌, ◌%◌, List, [], ◌∷◌, ◌++◌, ltb, leb, eqb}
 use Rattle.meaning.specs.Choice.{Bytes, pick}
 use Rattle.tape_layout.specs.Tape.{symbol_kind, part_kind, condition_kind, equals_kind, close_kind, next_kind, end_kind}
 use Rattle.tape_layout.specs.Tape.{function_kind}
@@ -47,8 +47,3 @@ list_from s (w ∷ ws) = (word_step s w).bytes ++ list_from (word_step s w).stat
 -- the most words that a tape has
 abbrev pub most_words : ℕ
 most_words = 32768
-
--- a tape has so many words, and no more than a tape may have
-pub record Listable (tape : List ℕ) (words : ℕ) : Type 0 where
-  pub there : words ≤ length tape
-  pub few : words ≤ most_words

@@ -2,7 +2,7 @@
 use Prim.Native.Nat.{ℕ, ◌≤◌}
 use native.Mathlib.Omega.{arith}
 use mathlib.Core.Path.{◌≡◌, refl, ap}
-use mathlib.Core.Bool.{true, false}
+use mathlib.Core.Bool.{false}
 use mathlib.Core.List.{List}
 use lib.Dec.{leb}
 use lib.ListN.{length, take, length-take}
@@ -18,9 +18,15 @@ use Rattle.meaning.specs.Leaving.{Cells, Leaving, after_run, room_of}
 use Rattle.meaning.specs.Leaving.{refused_run as unrun}
 use Rattle.meaning.proofs.Laws.Choosing.{of_either}
 use Rattle.run_code.specs.Leaving.{cells}
-use Rattle.engine.specs.declared.Report.{Report}
+use Rattle.std.specs.Prelude.{Ok, Err}
+use Rattle.std.specs.Prelude as Code
+use Rattle.answers.specs.declared.Fault.{Fault}
+use Rattle.answers.specs.declared.Ending.{Ending}
+use Rattle.answers.specs.declared.Ending.TheVariants.{Finished, NoSuchStart, TextTooLong, NoSentenceFits, AllowanceSpent, InFull, OutFull}
+use Rattle.answers.specs.declared.Ending.TheVariants.{FramesFull, RecordFull, NoInstruction, ArgumentNotAngles, AngleOutOfRange}
+use Rattle.run_actions.specs.declared.registers.Ran.{Ran}
 use Rattle.engine.specs.TableRuns.{TableRun, has_function, without_code, with_code, table_run, Reports}
-use Rattle.answers.specs.Numbers.{is_refusal}
+use Rattle.answers.specs.Numbers.{refusal_number, ending_number, is_refusal}
 use Rattle.program_printing.specs.Texts.{refusal_text}
 use Rattle.program_profile.specs.Profiles.{names_read}
 use Rattle.program.specs.Printed.{ran_text, run_text, code_words, start_function, program_allowance, lent_cells, Shows}
@@ -52,7 +58,29 @@ table_kept (accepted t) room start text lent allowance =
 front-within : (front whole : Bytes) → take (length front) whole ≡ front → length front ≤ length whole
 front-within front whole e = omega (arith, length-take (length front) whole, ap length e)
 
-module _ {r : Report} {counts : List ℕ} {words : Words} {after : Cells} {run : TableRun} (reports : Reports r counts words after run)
+-- no run's ending refuses a table
+no-refusal : (ending : Ending) → is_refusal (ending_number ending) ≡ false
+no-refusal Finished = refl
+no-refusal NoSuchStart = refl
+no-refusal TextTooLong = refl
+no-refusal NoSentenceFits = refl
+no-refusal AllowanceSpent = refl
+no-refusal InFull = refl
+no-refusal OutFull = refl
+no-refusal FramesFull = refl
+no-refusal RecordFull = refl
+no-refusal NoInstruction = refl
+no-refusal ArgumentNotAngles = refl
+no-refusal AngleOutOfRange = refl
+
+refusal-shown : {fault : Fault} {counts : List ℕ} {words : Words} {after : Cells} {run : TableRun} → Reports (Err fault) counts words after run
+    → (names : List Name) → run_text names run ≡ refusal_text (refusal_number fault.refusal) fault.place
+refusal-shown {fault} {run = run} reports names =
+    let told = reports.answer in
+    let answer : refusal_number fault.refusal ≡ run.leaving.result.answer = cc in
+    rw (← answer, reports.refused, ← reports.place)
+
+module _ {ran : Ran} {counts : List ℕ} {words : Words} {after : Cells} {run : TableRun} (reports : Reports (Ok ran) counts words after run)
     (kept : Kept run.leaving) (names : List Name) where
   «record» : after.«record» ≡ run.leaving.cells.«record»
   «record» = ap (λ c. c.«record») reports.cells
@@ -60,42 +88,39 @@ module _ {r : Report} {counts : List ℕ} {words : Words} {after : Cells} {run :
   out : after.stack_out ≡ run.leaving.cells.stack_out
   out = ap (λ c. c.stack_out) reports.cells
 
-  answer : r.answer ≡ run.leaving.result.answer
+  answer : ending_number ran.ending ≡ run.leaving.result.answer
   answer = let told = reports.answer in cc
 
-  emissions : r.emissions ≡ length run.leaving.result.emissions
+  emissions : ran.emissions ≡ length run.leaving.result.emissions
   emissions = let told = reports.answer in cc
 
-  text : r.text ≡ length run.leaving.result.text
+  text : ran.text ≡ length run.leaving.result.text
   text = let told = reports.answer in cc
 
-  emissions-within : r.emissions ≤ length after.«record»
+  emissions-within : ran.emissions ≤ length after.«record»
   emissions-within = rw (emissions, «record») (front-within _ _ kept.emissions)
 
-  text-within : r.text ≤ length after.stack_out
+  text-within : ran.text ≤ length after.stack_out
   text-within = rw (text, out) (front-within _ _ kept.text)
 
-  refusal-shown : is_refusal r.answer ≡ true → run_text names run ≡ refusal_text r.answer r.place
-  refusal-shown e = rw (← answer, e, ← reports.place)
-
-  result-shown : is_refusal r.answer ≡ false
-      → run_text names run ≡ ran_text names r.answer r.function r.steps counts (take r.emissions after.«record»)
-      (take r.text after.stack_out)
-  result-shown e =
+  result-shown : run_text names run
+      ≡ ran_text names (ending_number ran.ending) ran.function ran.steps counts (take ran.emissions after.«record»)
+      (take ran.text after.stack_out)
+  result-shown =
       let told = reports.answer in
-      let function : r.function ≡ run.leaving.result.function = cc in
-      let steps : r.steps ≡ run.leaving.result.steps = cc in
-      rw (← answer, e, ← function, ← steps, ← reports.counted, emissions, «record», kept.emissions, text, out, kept.text)
+      let function : ran.function ≡ run.leaving.result.function = cc in
+      let steps : ran.steps ≡ run.leaving.result.steps = cc in
+      rw (← answer, no-refusal ran.ending, ← function, ← steps, ← reports.counted, emissions, «record», kept.emissions, text, out, kept.text)
 
-pub shows : {table text : Bytes} {r : Report} {counts : List ℕ} {words : Words} {out «record» stack_in : Bytes}
+pub shows : (table text : Bytes) (r : Code.Result Ran Fault) {counts : List ℕ} {words : Words} {out «record» stack_in : Bytes}
     → Reports r counts words (cells stack_in out «record») (table_run (read table) code_words start_function text lent_cells program_allowance) →
     Shows table text r out «record» counts
-shows {table} {text} reports =
-    let names = names_read (read table) in
-    let kept = table_kept (read table) code_words start_function text lent_cells program_allowance in
+shows t _ (Err fault) reports = refusal-shown reports (names_read (read t))
+shows t x (Ok ran) reports =
+    let names = names_read (read t) in
+    let kept = table_kept (read t) code_words start_function x lent_cells program_allowance in
     record {
       emissions = emissions-within reports kept names;
       result = text-within reports kept names;
-      refusal = refusal-shown reports kept names;
       run = result-shown reports kept names;
     }

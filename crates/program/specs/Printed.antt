@@ -1,13 +1,14 @@
 -- What the program prints for a table text and a text: 01, the last paragraph of 'Runs to hold on to', and 02, T-01.
-use Rattle.std.specs.Prelude.{ℕ, ◌≤◌, ◌≡◌, true, false, List, ◌++◌, length, take}
+use Rattle.std.specs.Prelude.{ℕ, ◌≤◌, ◌≡◌, List, ◌++◌, length, take, Result, Ok, Err}
 use Rattle.meaning.specs.Choice.{Bytes, Name, pick}
 use Rattle.meaning.specs.Reading.{read}
 use Rattle.meaning.specs.Leaving.{Cells, zeros}
-use Rattle.answers.specs.Numbers.{is_refusal}
+use Rattle.answers.specs.Numbers.{refusal_number, ending_number, is_refusal}
 use Rattle.program_printing.specs.Texts.{refusal_text, result_text, profile_text}
 use Rattle.program_profile.specs.Profiles.{names_read}
 use Rattle.run_code.specs.Leaving.{cells}
-use Rattle.engine.specs.declared.Report.{Report}
+use Rattle.answers.specs.declared.Fault.{Fault}
+use Rattle.run_actions.specs.declared.registers.Ran.{Ran}
 use Rattle.engine.specs.TableRuns.{TableRun, table_run}
 
 -- the result and, of each function, its applications
@@ -46,13 +47,17 @@ printed table text =
     run_text (names_read (read table))
     (table_run (read table) code_words start_function text lent_cells program_allowance)
 
--- what is printed is told by a report, with the emissions at the front of the record, the result at the front of out,
--- and the counts
-pub record Shows (table text : Bytes) (r : Report) (out «record» : Bytes) (counts : List ℕ) : Type 0 where
-  pub emissions : r.emissions ≤ length «record»
-  pub result : r.text ≤ length out
-  pub refusal : is_refusal r.answer ≡ true → printed table text ≡ refusal_text r.answer r.place
-  pub run : is_refusal r.answer ≡ false
-      → printed table text ≡
-      ran_text (names_read (read table)) r.answer r.function r.steps counts (take r.emissions «record»)
-      (take r.text out)
+-- what is printed is told by a run, with the emissions at the front of the record, the result at the front of out, and
+-- the counts
+pub record ShowsRun (table text : Bytes) (ran : Ran) (out «record» : Bytes) (counts : List ℕ) : Type 0 where
+  pub emissions : ran.emissions ≤ length «record»
+  pub result : ran.text ≤ length out
+  pub run : printed table text ≡
+      ran_text (names_read (read table)) (ending_number ran.ending) ran.function ran.steps counts
+      (take ran.emissions «record») (take ran.text out)
+
+-- or by the fault of the table
+abbrev pub Shows : Bytes → Bytes → Result Ran Fault → Bytes → Bytes → List ℕ → Type 0
+Shows table text (Ok ran) out «record» counts = ShowsRun table text ran out «record» counts
+Shows table text (Err fault) out «record» counts =
+    printed table text ≡ refusal_text (refusal_number fault.refusal) fault.place

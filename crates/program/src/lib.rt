@@ -7,8 +7,9 @@ ghost use Rattle.program_printing.specs.Texts.{Prints};
 ghost use Rattle.program.specs.Printed.{code_words, cells_each, lent_bytes, printed, Shows};
 ghost use Rattle.program.specs.Written.{AppendsFront};
 
-use answers::is_refusal;
-use engine::{COUNTED, Report};
+use answers::Fault;
+use byte_writing::ByteWriter;
+use engine::{COUNTED, Ran};
 use program_printing::{put_refusal, put_result};
 use program_profile::put_profile;
 use std::io::{ErrorKind, Read, Write};
@@ -65,7 +66,7 @@ fn run_table(
     stack_out: &mut [u8],
     record: &mut [u8],
     counts: &mut [u64; COUNTED],
-) -> Report
+) -> Result<Ran, Fault>
     requires stack_out_value { stack_out.old ≡ lent_bytes }
     requires record_value { «record».old ≡ lent_bytes }
     ensures { Shows table.now text.now result stack_out.new «record».new
@@ -94,26 +95,27 @@ pub fn respond(table: &[u8], text: &[u8], out: &mut [u8; OUTPUT_BYTES]) -> usize
     let mut stack_out = cell_room();
     let mut record = cell_room();
     let mut counts = count_room();
-    let report = run_table(table, text, &mut stack_out, &mut record, &mut counts);
-    let answer = report.answer;
-    if is_refusal(answer) {
-        return put_refusal(out, answer, report.place);
-    }
-    let emissions = report.emissions;
-    let length = report.text;
-    let steps = report.steps;
-    let profile = put_result(
-        out,
-        answer,
-        report.function,
-        steps,
+    let ran = match run_table(table, text, &mut stack_out, &mut record, &mut counts) {
+        Ok(ran) => ran,
+        Err(fault) => return put_refusal(out, u64::from(fault.refusal), fault.place),
+    };
+    let emissions = ran.emissions;
+    let length = ran.text;
+    let mut writer = ByteWriter::new(out);
+    put_result(
+        &mut writer,
+        u64::from(ran.ending),
+        ran.function,
+        ran.steps,
         &record[..emissions],
         &stack_out[..length],
     );
-    put_profile(table, &counts, steps, out, profile)
+    put_profile(&mut writer, table, &counts, ran.steps);
+    writer.count()
 }
 
-// Fills the buffer from a reader, up to its end or to the reader's. Handed back: how many bytes were read.
+// Fills the buffer from a reader, up to its end or to the reader's. Handed back: how many bytes were read. A reader may
+// be interrupted for ever, but each function ends: so the loop has a bound, which no run comes to.
 fn read_input<R: Read>(reader: &mut R, buffer: &mut [u8]) -> io::Result<usize>
     ensures within { IfOk result (λ n. n ≤ length buffer.new) }
     ensures bytes { IfOk result (λ n. IfSome (R.remaining reader.old)
@@ -137,7 +139,8 @@ fn read_input<R: Read>(reader: &mut R, buffer: &mut [u8]) -> io::Result<usize>
     Err(io::Error::from(ErrorKind::Interrupted))
 }
 
-// Writes the bytes one after another. After an error the first of them may have been written.
+// Writes the bytes one after another. After an error the first of them may have been written. The loop's bound is as in
+// `read_input`.
 fn write_bytes<W: Write>(output: &mut W, bytes: &[u8]) -> io::Result<()>
     ensures ok { OnOk result (Appends (W.contents output.old) (W.contents output.new) bytes.now) }
     ensures err { OnErr result

@@ -10,35 +10,36 @@ use mir.Val.{Fits}
 use mir.Syntax.{w64}
 use Rattle.meaning.specs.Choice.{Bytes}
 use Rattle.io.specs.Digits.{last_digits, IsDigitCount}
+use Rattle.byte_writing.specs.declared.ByteWriter.{ByteWriter}
 use Rattle.byte_writing.specs.Put.{Put}
-use Rattle.byte_writing.proofs.Writing.{put_then}
-use Rattle.program_printing.specs.Texts.{number_cells, number_then, Prints, PutAtMost}
+use Rattle.byte_writing.specs.Wrote.{Wrote}
+use Rattle.byte_writing.proofs.Writing.{wrote_then}
+use Rattle.program_printing.specs.Texts.{number_cells, number_then, Prints, WroteAtMost}
 use Rattle.program_printing.proofs.Numerals.{fewest-numeral, fewest_short}
 
 -- the digits of a number, and the byte after them
-pub counted-put : {n after at count next last : ℕ} (text : Bytes) {old mid new : Bytes} → count ≡ length (take count text) → Fits w64 n →
+pub counted-put : {n after count : ℕ} (text : Bytes) {old mid new : ByteWriter} → count ≡ length (take count text) → Fits w64 n →
     IsDigitCount 10 1 n count
-    → take count text ≡ last_digits 10 count n → Put at old (take count text) next mid → Put next mid (after ∷ []) last new
-    → PutAtMost number_cells at old (number_then n after) last new
+    → take count text ≡ last_digits 10 count n → Wrote old (take count text) mid → Wrote mid (after ∷ []) new
+    → WroteAtMost number_cells old (number_then n after) new
 counted-put {n} {count = count} text size fits fewest are p q =
     record {
-      put = put_then (rw (are, fewest-numeral count n fewest) at p) q;
-      near = omega (arith, size, fewest_short count n fewest fits, p.place, q.place);
+      wrote = wrote_then (rw (are, fewest-numeral count n fewest) at p) q;
+      near = omega (arith, size, fewest_short count n fewest fits, p.put.place, q.put.place);
     }
 
 -- all of the bytes
-pub put-bytes : {at : ℕ} {old bytes : Bytes} {next : ℕ} {new : Bytes} → Put at old bytes next new → PutAtMost (length bytes) at old bytes next new
-put-bytes p = record { put = p; near = omega (arith, p.place) }
+pub put-bytes : {old new : ByteWriter} {bytes : Bytes} → Wrote old bytes new → WroteAtMost (length bytes) old bytes new
+put-bytes p = record { wrote = p; near = omega (arith, p.put.place) }
 
 -- bytes after others
-pub at-most-then : {m n at : ℕ} {old xs : Bytes} {next : ℕ} {mid ys : Bytes} {last : ℕ} {new : Bytes}
-    → PutAtMost m at old xs next mid → PutAtMost n next mid ys last new → PutAtMost (m + n) at old (xs ++ ys) last new
-at-most-then p q = record { put = put_then p.put q.put; near = omega (arith, p.near, q.near) }
+pub at-most-then : {m n : ℕ} {old mid new : ByteWriter} {xs ys : Bytes} → WroteAtMost m old xs mid → WroteAtMost n mid ys new →
+    WroteAtMost (m + n) old (xs ++ ys) new
+at-most-then p q = record { wrote = wrote_then p.wrote q.wrote; near = omega (arith, p.near, q.near) }
 
 -- a bound by another sum
-pub sum_near : {m n at : ℕ} {old bytes : Bytes} {next : ℕ} {new : Bytes} → PutAtMost m at old bytes next new → m ≤ n →
-    PutAtMost n at old bytes next new
-sum_near p h = record { put = p.put; near = omega (arith, p.near) }
+pub sum_near : {m n : ℕ} {old new : ByteWriter} {bytes : Bytes} → WroteAtMost m old bytes new → m ≤ n → WroteAtMost n old bytes new
+sum_near p h = record { wrote = p.wrote; near = omega (arith, p.near) }
 
 -- what is written from the first cell on, and fits, is printed
 pub put-prints : {text old new : Bytes} {count : ℕ} → Put 0 old text count new → count ≤ length old → Prints text old count new

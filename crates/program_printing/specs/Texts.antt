@@ -4,7 +4,9 @@ use Rattle.std.specs.Prelude.{ℕ, zero, suc, ◌+◌, ◌/◌, ◌%◌, ◌≤�
 use Rattle.meaning.specs.Choice.{Bytes, Name, pick}
 use Rattle.meaning.specs.Ascii.{space, line_feed, digit_zero}
 use Rattle.meaning.specs.Leaving.{over}
+use Rattle.byte_writing.specs.declared.ByteWriter.{ByteWriter}
 use Rattle.byte_writing.specs.Put.{Put}
+use Rattle.byte_writing.specs.Wrote.{Wrote}
 
 -- a number in decimal, if it has no more digits than this
 unfoldable pub numeral_of : ℕ → ℕ → Bytes
@@ -63,3 +65,8 @@ pub record Prints (text old : Bytes) (count : ℕ) (new : Bytes) : Type 0 where
 pub record PutAtMost (most at : ℕ) (old bytes : Bytes) (next : ℕ) (new : Bytes) : Type 0 where
   pub put : Put at old bytes next new
   pub near : next ≤ at + most
+
+-- a writer is given bytes, so many at most
+pub record WroteAtMost (most : ℕ) (old : ByteWriter) (bytes : Bytes) (new : ByteWriter) : Type 0 where
+  pub wrote : Wrote old bytes new
+  pub near : new.at ≤ old.at + most

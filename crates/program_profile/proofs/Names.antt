@@ -20,7 +20,9 @@ use Rattle.code_sentences.specs.Trees.{functions_on_tape, function_on_tape, tree
 use Rattle.code_table.specs.Declaring.{HeadsInside, words_from, HeadsAll}
 use Rattle.code_table.proofs.Laws.Retraced.{tape-retraced}
 use Rattle.read_table.specs.declared.Reading.{Reading}
-use Rattle.read_table.specs.Reads.{tree_tape, Reads}
+use Rattle.std.specs.Prelude.{Result}
+use Rattle.answers.specs.declared.Fault.{Fault}
+use Rattle.read_table.specs.Reads.{tree_tape, words_read, Reads}
 use Rattle.engine_tables.proofs.Known.{AreBytes, Known, read_known}
 use Rattle.program_profile.specs.Profiles.{names_read, NameSpelled, AllSpelled}
 
@@ -74,19 +76,11 @@ name-at ws (p ∷ heads) (suc k) h t = name-at ws heads k (omega arith) (every-t
 
 -- A NAME'S BYTES
 
-byte_at : (n : Name) (i : ℕ) → T (every is_byte n) → get_or n i 0 % 256 ≡ get_or n i 0
+pub byte_at : (n : Name) (i : ℕ) → T (every is_byte n) → get_or n i 0 % 256 ≡ get_or n i 0
 unfolding every
 byte_at [] i t = refl
 byte_at (b ∷ n) zero t = omega (arith, ltb→lt b 256 (every-head is_byte b n t))
 byte_at (b ∷ n) (suc i) t = byte_at n i (every-tail is_byte b n t)
-
-pub name-byte : (ws : List ℕ) (head i : ℕ) → NameSpelled ws head → i < length (head_name ws head) → get_or ws (head + 1 + i) 0 % 256 ≡
-    get_or (head_name ws head) i 0
-name-byte ws head i s h =
-    let there : get_or (head_name ws head) i 0 ≡ get_or ws (head + 1 + i) 0 =
-    ap (λ (n : Name). get_or n i 0) (name-part ws head) ∙ get_or-take (length (head_name ws head)) (drop (head + 1) ws) i 0 h ∙
-    get_or-drop (head + 1) ws i 0 in
-    rw (← there) (byte_at (head_name ws head) i s.bytes)
 
 heads-spelled : (ws heads : List ℕ) (x : Read) → Known x → head_names ws heads ≡ names_read x → HeadsInside ws heads (length heads) →
     AllSpelled ws heads
@@ -106,15 +100,16 @@ pub record Heads (text : Bytes) (ws heads : List ℕ) : Type 0 where
   pub spelled : AllSpelled ws heads
   pub few : length heads ≤ max_functions
 
-pub heads-read : {text : Bytes} {r : Reading} {tape' : List ℕ} (heads : List ℕ) {count : ℕ} → AreBytes text → Reads text r tape'
-    → HeadsAll (take r.words tape') heads count → length heads ≡ max_functions → Heads text (take r.words tape') (take count heads)
-heads-read {text} {r} {tape'} heads {count} bytes reads all room =
+pub heads-read : {text : Bytes} {r : Result Reading Fault} {tape' : List ℕ} {words : ℕ} (heads : List ℕ) {count : ℕ} → AreBytes text
+    → Reads text r tape' → words ≡ words_read r
+    → HeadsAll (take words tape') heads count → length heads ≡ max_functions → Heads text (take words tape') (take count heads)
+heads-read {text} {r} {tape'} {words} heads {count} bytes reads told all room =
     let known = read_known text bytes in
-    let named = heads-named {heads = heads} (read text) known reads.tape all in
+    let named = heads-named {heads = heads} (read text) known (rw told reads.tape) all in
     let few : length (take count heads) ≡ count = length-take-le count heads (omega (arith, all.few)) in
     record {
       named = named;
-      spelled = heads-spelled (take r.words tape') (take count heads) (read text) known named
+      spelled = heads-spelled (take words tape') (take count heads) (read text) known named
           (λ k h. rw (get_or-take count heads k 0 (omega arith)) (all.inside k (omega arith)));
       few = omega (arith, all.few);
     }

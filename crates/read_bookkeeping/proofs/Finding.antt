@@ -1,107 +1,87 @@
--- Finding a name in a table.
-use Prim.Native.Nat.{ℕ, suc, ◌+◌, ◌-◌, ◌/◌, ◌%◌, ◌≤◌, ◌<◌}
+-- Finding a name among others.
+use Prim.Native.Nat.{ℕ, suc, ◌+◌, ◌≤◌, ◌<◌}
 use mathlib.Core.Path.{◌≡◌, refl, sym, ◌∙◌, ap}
 use mathlib.Core.Bool.{Bool, true, false}
 use mathlib.Core.List.{List, [], ◌∷◌}
-use mathlib.Core.Option.{none, some}
-use native.Mathlib.Nat.{add-zero}
+use mathlib.Core.Option as Math
 use native.Mathlib.Omega.{arith}
-use lib.Dec.{T, ltb, leb→le, leb-suc-suc}
-use lib.ListN.{length, get_or, drop}
-use borrow.Author.Tests.{lt-ltb, le-ltb, ltb-true, ltb-false}
-use lib.Seq.{slice, slice-cons, slice_empty, length-slice}
-use Rattle.meaning.specs.Choice.{Bytes, Name, pick, either, every, same_bytes}
+use lib.ListN.{length, get_or, drop, drop_of_length-le}
+use lib.Seq.{drop-cons}
+use Rattle.std.specs.Prelude.{Option, Some, None, option_map, is_some}
+use Rattle.meaning.specs.Choice.{Bytes, Name, pick, either, same_bytes}
 use Rattle.meaning.specs.Allowed.{member, coming_after}
-use Rattle.meaning.proofs.Laws.Passing.{every-head, every-tail}
-use Rattle.read_bookkeeping.specs.Tables.{entry_name, names_in, in_text, table_names, Entries, position, entry_width}
+use Rattle.read_tokens.specs.View.{span_text}
+use Rattle.read_tokens.specs.declared.Span.{Span}
+use Rattle.read_bookkeeping.specs.Tables.{names_in, place_in}
 
 -- the search from the start is that from here
-pub record Finding (text : Bytes) (table : List ℕ) (from to : ℕ) (x : Name) (i : ℕ) : Type 0 where
-  pub onward : from ≤ i
-  pub low : i ≤ to
-  pub inside : to ≤ length table
-  pub sound : T (every (in_text text) (slice i to table))
-  pub same : from + position x (table_names text table from to) ≡ i + position x (table_names text table i to)
+abbrev pub further : ℕ → Option ℕ → Option ℕ
+further i None = None
+further i (Some n) = Some (i + n)
 
-pub find-starts : (text : Bytes) (table : List ℕ) (from to : ℕ) (x : Name) → Entries text table from to → Finding text table from to x from
-find-starts text table from to x e =
-    record { onward = omega arith; low = e.ordered; inside = e.inside; sound = e.sound; same = refl }
+abbrev pub Finding : Bytes → List Span → Name → ℕ → Type 0
+Finding text names x i = place_in x (names_in text names) ≡ further i (place_in x (names_in text (drop i names)))
 
-module _ {text : Bytes} {table : List ℕ} {from to : ℕ} {x : Name} {i : ℕ} (f : Finding text table from to x i) where
-  pub find-ends : to ≤ i → to ≡ from + position x (table_names text table from to)
-  unfolding names_in position
-  find-ends h =
-      let e : i ≡ to = omega (arith, f.low) in
-      sym (f.same ∙ rw (e, slice_empty to table, add-zero to))
+further-none : (o : Option ℕ) → o ≡ further 0 o
+further-none None = refl
+further-none (Some n) = ap Some (omega arith)
 
-  module _ (h : i < to) where
-    first : slice i to table ≡ get_or table i 0 ∷ slice (suc i) to table
-    first = slice-cons i to table 0 h f.inside
+further-suc : (i : ℕ) (o : Option ℕ) → further i (option_map suc o) ≡ further (i + 1) o
+further-suc i None = refl
+further-suc i (Some n) = ap Some (omega arith)
 
-    -- the entry's name lies in the text
-    pub entry-inside : get_or table i 0 / entry_width + get_or table i 0 % entry_width ≤ length text
-    entry-inside = leb→le _ _ (every-head (in_text text) (get_or table i 0) (slice (suc i) to table) (rw first at f.sound))
+pub find-starts : (text : Bytes) (names : List Span) (x : Name) → Finding text names x 0
+find-starts text names x = further-none _
 
-    -- the entry is the name, or the search goes on after it
-    abbrev pub FindOn : Bool → Type 0
-    FindOn true = i ≡ from + position x (table_names text table from to)
-    FindOn false = Finding text table from to x (i + 1)
+module _ (text : Bytes) (names : List Span) (x : Name) (i : ℕ) (f : Finding text names x i) where
+  pub find-ends : length names ≤ i → None ≡ place_in x (names_in text names)
+  unfolding place_in
+  find-ends h = sym (rw (drop_of_length-le names h) at f)
 
-    pub find-on : (is : Bool) → is ≡ same_bytes x (entry_name text (get_or table i 0)) → FindOn is
-    unfolding names_in position
-    find-on true e = sym (f.same ∙ rw (first, ← e) (add-zero i))
-    find-on false e =
-        let u : suc i ≡ i + 1 = omega arith in
-        record {
-          onward = omega (arith, f.onward);
-          low = omega arith;
-          inside = f.inside;
-          sound = rw (← u) (every-tail (in_text text) (get_or table i 0) (slice (suc i) to table) (rw first at f.sound));
-          same = f.same ∙ rw (first, ← e, ← u) (omega arith);
-        }
+  -- this name is the one, or the search goes on after it
+  abbrev pub FindOn : Bool → Type 0
+  FindOn true = Some i ≡ place_in x (names_in text names)
+  FindOn false = Finding text names x (i + 1)
 
--- WHAT A POSITION SAYS
+  pub find-on : (d : Span) → i < length names → (is : Bool) → is ≡ same_bytes x (span_text text (get_or names i d)) → FindOn is
+  unfolding place_in
+  find-on d h is s = turned is s
+    where
+      here : place_in x (names_in text names)
+          ≡ further i (pick (same_bytes x (span_text text (get_or names i d))) (Some 0)
+          (option_map suc (place_in x (names_in text (drop (suc i) names)))))
+      here = f ∙ rw (drop-cons names i d h)
 
-pub position-member : (x : Name) (ys : List Name) → ltb (position x ys) (length ys) ≡ member x ys
-unfolding position member
-position-member x [] = refl
-position-member x (y ∷ ys) = chosen (same_bytes x y) (position-member x ys)
+      turned : (is' : Bool) → is' ≡ same_bytes x (span_text text (get_or names i d)) → FindOn is'
+      turned true s' = sym (here ∙ rw (← s') (ap Some (omega arith)))
+      turned false s' =
+          let u : suc i ≡ i + 1 = omega arith in
+          here ∙ rw (← s', ← u) (further-suc i (place_in x (names_in text (drop (suc i) names))) ∙ rw u)
+
+-- WHAT A PLACE SAYS
+
+pub place_member : (x : Name) (ys : List Name) → is_some (place_in x ys) ≡ member x ys
+unfolding place_in member
+place_member x [] = refl
+place_member x (y ∷ ys) = chosen (same_bytes x y) (place_in x ys) (place_member x ys)
   where
-    chosen : (is : Bool) → ltb (position x ys) (length ys) ≡ member x ys
-        → ltb (pick is 0 (suc (position x ys))) (suc (length ys)) ≡ either is (member x ys)
-    chosen true e = lt-ltb 0 (suc (length ys)) (omega arith)
-    chosen false e = leb-suc-suc (suc (position x ys)) (length ys) ∙ e
+    chosen : (is : Bool) (o : Option ℕ) → is_some o ≡ member x ys → is_some (pick is (Some 0) (option_map suc o)) ≡ either is (member x ys)
+    chosen true o e = refl
+    chosen false None e = e
+    chosen false (Some n) e = e
 
-pub position-coming : (x : Name) (ys : List Name)
-    → coming_after x ys ≡ pick (ltb (position x ys) (length ys)) (some (drop (suc (position x ys)) ys)) none
-unfolding position coming_after
-position-coming x [] = refl
-position-coming x (y ∷ ys) = chosen (same_bytes x y) (position-coming x ys)
+-- those after the place of the first
+abbrev pub those_after : List Name → Option ℕ → Math.Option (List Name)
+those_after ys None = Math.none
+those_after ys (Some n) = Math.some (drop (suc n) ys)
+
+pub place_coming : (x : Name) (ys : List Name) → coming_after x ys ≡ those_after ys (place_in x ys)
+unfolding place_in coming_after
+place_coming x [] = refl
+place_coming x (y ∷ ys) = chosen (same_bytes x y) (place_in x ys) (place_coming x ys)
   where
-    chosen : (is : Bool) → coming_after x ys ≡ pick (ltb (position x ys) (length ys)) (some (drop (suc (position x ys)) ys)) none
-        → pick is (some ys) (coming_after x ys)
-        ≡ pick (ltb (pick is 0 (suc (position x ys))) (suc (length ys))) (some (drop (suc (pick is 0 (suc (position x ys)))) (y ∷ ys))) none
-    chosen true e = rw (lt-ltb 0 (suc (length ys)) (omega arith))
-    chosen false e = rw (leb-suc-suc (suc (position x ys)) (length ys)) e
-
--- a name was found before the end exactly where it is among the names
-names-length : (text : Bytes) (entries : List ℕ) → length (names_in text entries) ≡ length entries
-unfolding names_in
-names-length text [] = refl
-names-length text (e ∷ entries) = ap suc (names-length text entries)
-
-module _ (text : Bytes) (table : List ℕ) (from to : ℕ) (e : Entries text table from to) where
-  pub table-length : length (table_names text table from to) ≡ to - from
-  table-length = names-length text (slice from to table) ∙ length-slice from to table e.inside
-
-  module _ (x : Name) (r : ℕ) (f : r ≡ from + position x (table_names text table from to)) where
-    abbrev names : List Name
-    names = table_names text table from to
-
-    -- a test on the place says whether it is among them
-    pub among : {is : Bool} → ltb r to ≡ is → member x names ≡ is
-    among {is} h = sym (position-member x names) ∙ rw table-length (before is h)
-      where
-        before : (is' : Bool) → ltb r to ≡ is' → ltb (position x names) (to - from) ≡ is'
-        before true h' = lt-ltb (position x names) (to - from) (omega (arith, f, e.ordered, ltb-true r to h'))
-        before false h' = le-ltb (position x names) (to - from) (omega (arith, f, e.ordered, ltb-false r to h'))
+    chosen : (is : Bool) (o : Option ℕ) → coming_after x ys ≡ those_after ys o
+        → pick is (Math.some ys) (coming_after x ys) ≡ those_after (y ∷ ys) (pick is (Some 0) (option_map suc o))
+    chosen true o e = refl
+    chosen false None e = e
+    chosen false (Some n) e = e

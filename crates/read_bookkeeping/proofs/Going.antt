@@ -6,7 +6,8 @@ use mathlib.Core.List.{List, [], ◌∷◌, ◌++◌, append_assoc}
 use native.Mathlib.Omega.{arith}
 use lib.Dec.{T, eqb, lt→ltb}
 use lib.ListN.{length, set, length-append}
-use Rattle.meaning.specs.Choice.{Bytes, every}
+use Rattle.std.specs.Prelude.{Result, Ok, Err, IfErr}
+use Rattle.meaning.specs.Choice.{Bytes, pick, every}
 use Rattle.tape_layout.specs.Tape.{named, call_word, kind_width}
 use Rattle.meaning.specs.Tokens.{Placed}
 use Rattle.meaning.specs.Reading.{Parsed, stopped, parsed, follow, whether, is_sign, pass, where_faultless}
@@ -14,11 +15,10 @@ use Rattle.meaning.proofs.Laws.Passing.{both-pass}
 use Rattle.meaning.specs.Allowed.{max_table}
 use Rattle.read_tokens.specs.View as View
 use Rattle.read_tokens.specs.declared.Span.{Span}
-use Rattle.read_bookkeeping.specs.declared.progress.Fault.{Fault}
-use Rattle.read_bookkeeping.specs.declared.progress.Progress.{Progress}
-use Rattle.read_bookkeeping.specs.declared.progress.Parsed.TheVariants.{Stopped, Done}
-use Rattle.answers.specs.Numbers.{answer_number}
-use Rattle.read_bookkeeping.specs.Answered.{ReadingOutcome, halted, reached, ComesTo, AgreesBy, Agrees}
+use Rattle.answers.specs.declared.Fault.{Fault}
+use Rattle.answers.specs.Numbers.{refusal_number, fault_number}
+use Rattle.answers.proofs.Refused.{not-accepted}
+use Rattle.read_bookkeeping.specs.Answered.{ComesTo, Agrees}
 use Rattle.read_bookkeeping.specs.Tables.{Inside}
 use Rattle.read_bookkeeping.specs.Written.{WroteOnTape, is_quiet, Ready, Went}
 use Rattle.read_bookkeeping.proofs.Lengths.{part_length}
@@ -32,6 +32,24 @@ pub check-wrong : {A : Type 0} (number : ℕ) (t : Placed) (later : Parsed A) �
 check-wrong zero t later e = absurd (true≢false e)
 check-wrong (suc number) t later e = refl
 
+-- a check that refuses stops, and one that doesn't has found no fault
+module _ {U : Type 0} {r : Result U Fault} {number : ℕ} (n : fault_number r ≡ number) where
+  pub checked-wrong : {A : Type 0} (t : Placed) (later : Parsed A) {fault : Fault} → r ≡ Err fault → IfErr r (λ f. f.place ≡ t.place)
+      → where_faultless number t later ≡ stopped (refusal_number fault.refusal) fault.place
+  checked-wrong t later {fault} e p =
+      let m : refusal_number fault.refusal ≡ number = rw e at n in
+      let q : fault.place ≡ t.place = rw e at p in
+      check-wrong number t later (rw m at (not-accepted fault.refusal)) ∙ rw (m, q)
+
+  pub checked-right : {done : U} → r ≡ Ok done → number ≡ 0
+  checked-right e = sym (rw e at n)
+
+-- what a test refuses
+pub refused-wrong : {U : Type 0} {r : Result U Fault} {fault : Fault} (wrong : Bool) {number : ℕ} → r ≡ Err fault
+    → fault_number r ≡ pick wrong number 0 → (wrong ≡ true) × (refusal_number fault.refusal ≡ number)
+refused-wrong true e n = (refl, rw e at n)
+refused-wrong {fault = fault} false e n = absurd (true≢false (rw (rw e at n) at (not-accepted fault.refusal)))
+
 -- what the definition has read, where the code has
 pub record ReadAt {A P : Type 0} (Reads : A → List Placed → P → Type 0) (p : Parsed A) (s : P) : Type 0 where
   pub value : A
@@ -39,52 +57,38 @@ pub record ReadAt {A P : Type 0} (Reads : A → List Placed → P → Type 0) (p
   pub same : p ≡ parsed value rest
   pub how : Reads value rest s
 
--- whatever the code's reader hands back
-module _ {A P R : Type 0} {outcome : R → ReadingOutcome P} {Reads : A → List Placed → P → Type 0} where
+module _ {A P : Type 0} {Reads : A → List Placed → P → Type 0} where
   -- the definition stops with this fault
-  pub stops-by : {p : Parsed A} {r : R} {fault : Fault} → outcome r ≡ halted fault
-      → p ≡ stopped (answer_number fault.answer) fault.place
-      → AgreesBy outcome Reads p r
-  stops-by h e = record { comes = rw (h, e) (refl, refl) }
+  pub stops : {p : Parsed A} {fault : Fault} → p ≡ stopped (refusal_number fault.refusal) fault.place → Agrees Reads p (Err fault)
+  stops e = record { comes = rw e (refl, refl) }
 
   -- the definition reads
-  pub reads-by : {p : Parsed A} {r : R} {s : P} → outcome r ≡ reached s → (value : A) (rest : List Placed) → p ≡ parsed value rest →
-      Reads value rest s
-      → AgreesBy outcome Reads p r
-  reads-by h value rest e how = record { comes = rw (h, e) how }
+  pub reads : {p : Parsed A} {s : P} (value : A) (rest : List Placed) → p ≡ parsed value rest → Reads value rest s → Agrees Reads p (Ok s)
+  reads value rest e how = record { comes = rw e how }
 
   -- the code has stopped, so the definition has
-  pub has-stopped : (p : Parsed A) {r : R} (fault : Fault) → outcome r ≡ halted fault → AgreesBy outcome Reads p r
-      → p ≡ stopped (answer_number fault.answer) fault.place
+  pub has-stopped : (p : Parsed A) {r : Result P Fault} (fault : Fault) → r ≡ Err fault → Agrees Reads p r
+      → p ≡ stopped (refusal_number fault.refusal) fault.place
   has-stopped p fault h a = told p (rw h at a.comes)
     where
-      told : (p' : Parsed A) → ComesTo Reads p' (halted fault) → p' ≡ stopped (answer_number fault.answer) fault.place
+      told : (p' : Parsed A) → ComesTo Reads p' (Err fault) → p' ≡ stopped (refusal_number fault.refusal) fault.place
       told (stopped number place) c = rw (c.0, c.1)
       told (parsed value rest) c = absurd c
 
   -- the code has read, so the definition has
-  pub has-read : (p : Parsed A) {r : R} (s : P) → outcome r ≡ reached s → AgreesBy outcome Reads p r → ReadAt Reads p s
+  pub has-read : (p : Parsed A) {r : Result P Fault} (s : P) → r ≡ Ok s → Agrees Reads p r → ReadAt Reads p s
   has-read p s h a = told p (rw h at a.comes)
     where
-      told : (p' : Parsed A) → ComesTo Reads p' (reached s) → ReadAt Reads p' s
+      told : (p' : Parsed A) → ComesTo Reads p' (Ok s) → ReadAt Reads p' s
       told (stopped number place) c = absurd c
       told (parsed value rest) c = record { value = value; rest = rest; same = refl; how = c }
 
--- where it counts nothing
-module _ {A : Type 0} {Reads : A → List Placed → Progress → Type 0} where
-  pub stops : {p : Parsed A} {fault : Fault} → p ≡ stopped (answer_number fault.answer) fault.place → Agrees Reads p (Stopped fault)
-  stops e = stops-by refl e
-
-  pub reads : {p : Parsed A} {s : Progress} (value : A) (rest : List Placed) → p ≡ parsed value rest → Reads value rest s → Agrees Reads p (Done s)
-  reads value rest e r = reads-by refl value rest e r
-
 -- what stops a reader stops what begins with it
-pub stops-too : {A B P Q R S : Type 0} {outcome : R → ReadingOutcome P} {ended : S → ReadingOutcome Q} {Reads : A → List Placed → P → Type 0}
-    {Makes : B → List Placed → Q → Type 0}
-    {p : Parsed A} {q : Parsed B} {r : R} {s : S} {fault : Fault} → AgreesBy outcome Reads p r → outcome r ≡ halted fault → ended s ≡ halted fault
-    → (p ≡ stopped (answer_number fault.answer) fault.place → q ≡ stopped (answer_number fault.answer) fault.place)
-    → AgreesBy ended Makes q s
-stops-too {fault = fault} a e h begins = stops-by h (begins (has-stopped _ fault e a))
+pub stops-too : {A B P Q : Type 0} {Reads : A → List Placed → P → Type 0} {Makes : B → List Placed → Q → Type 0}
+    {p : Parsed A} {q : Parsed B} {r : Result P Fault} {s : Result Q Fault} {fault : Fault} → Agrees Reads p r → r ≡ Err fault → s ≡ Err fault
+    → (p ≡ stopped (refusal_number fault.refusal) fault.place → q ≡ stopped (refusal_number fault.refusal) fault.place)
+    → Agrees Makes q s
+stops-too {fault = fault} a e h begins = rw h (stops (begins (has-stopped _ fault e a)))
 
 -- FOLLOWING
 
@@ -110,21 +114,20 @@ follow-alone (stopped number place) = refl
 follow-alone (parsed value rest) = refl
 
 -- what the definition makes of what it has read, the code has read
-pub makes : {A B P R : Type 0} {outcome : R → ReadingOutcome P} {Reads : A → List Placed → P → Type 0}
-    {Makes : B → List Placed → P → Type 0} {p : Parsed B}
-    {r : R}
+pub makes : {A B P : Type 0} {Reads : A → List Placed → P → Type 0} {Makes : B → List Placed → P → Type 0} {p : Parsed B}
+    {r : Result P Fault}
     (make : A → B) (q : Parsed A)
     → ((value : A) (rest : List Placed) (s : P) → Reads value rest s → Makes (make value) rest s)
     → p ≡ follow q (λ value rest. parsed (make value) rest)
-    → AgreesBy outcome Reads q r
-    → AgreesBy outcome Makes p r
-makes {A} {B} {P} {outcome = outcome} {Reads} {Makes} {p} {r} make q how e a = rw e (record { comes = made q (outcome r) a.comes })
+    → Agrees Reads q r
+    → Agrees Makes p r
+makes {A} {B} {P} {Reads} {Makes} {p} {r} make q how e a = rw e (record { comes = made q r a.comes })
   where
-    made : (q' : Parsed A) (o : ReadingOutcome P) → ComesTo Reads q' o → ComesTo Makes (follow q' (λ value rest. parsed (make value) rest)) o
-    made (stopped number place) (halted fault) c = c
-    made (stopped number place) (reached s) c = c
-    made (parsed value rest) (halted fault) c = c
-    made (parsed value rest) (reached s) c = how value rest s c
+    made : (q' : Parsed A) (o : Result P Fault) → ComesTo Reads q' o → ComesTo Makes (follow q' (λ value rest. parsed (make value) rest)) o
+    made (stopped number place) (Err fault) c = c
+    made (stopped number place) (Ok s) c = c
+    made (parsed value rest) (Err fault) c = c
+    made (parsed value rest) (Ok s) c = how value rest s c
 
 -- these before the others
 abbrev pub behind : {A : Type 0} → List A → List A → List Placed → Parsed (List A)

@@ -16,7 +16,7 @@ use Rattle.read_tokens.specs.View.{Sound, Comes}
 use Rattle.read_tokens.specs.declared.Token.{Token}
 use Rattle.read_tokens.specs.declared.Placed.{Placed}
 use Rattle.read_tokens.proofs.Variants.{by_kind}
-use Rattle.answers.specs.declared.Answer.TheVariants.{NotAllowedHere}
+use Rattle.answers.specs.declared.Refusal.TheVariants.{NotAllowedHere}
 use Rattle.read_bookkeeping.specs.Tokened.{word_is, is_word, unless_word}
 use Rattle.read_bookkeeping.specs.Items.{NoItem, WordRefused}
 
@@ -49,7 +49,7 @@ module _ (text : Bytes) (place past : ℕ) where
   abbrev RefusedIf : Token → Type 0
   RefusedIf k =
       Sound text k place past → word_is k ≡ true → OneOf all_but_symbol (tag_of token.the_type k) → OneOf all_but_part (tag_of token.the_type k)
-      → WordRefused text (placed k) (record { answer = NotAllowedHere; place = place })
+      → WordRefused text (placed k) (record { refusal = NotAllowedHere; place = place })
 
   refused-if : (k : Token) → RefusedIf k
   refused-if =
@@ -64,7 +64,7 @@ module _ {text : Bytes} {mode : Tokens.Mode} {at : ℕ} {t : Placed} (c : Comes 
 
   pub no-variable : word_is t.token ≡ true → OneOf all_but_symbol (tag_of token.the_type t.token) →
       OneOf all_but_part (tag_of token.the_type t.token)
-      → WordRefused text t (record { answer = NotAllowedHere; place = t.place })
+      → WordRefused text t (record { refusal = NotAllowedHere; place = t.place })
   no-variable = refused-if text t.place t.past t.token c.sound
 
 -- a word is no byte that stands for itself

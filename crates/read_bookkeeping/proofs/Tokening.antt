@@ -6,6 +6,7 @@ use mathlib.Core.List.{List, ◌∷◌}
 use mathlib.Core.Option.{none}
 use native.Mathlib.Omega.{arith}
 use borrow.Author.Tests.{eqb-true, eq-eqb}
+use Rattle.std.specs.Prelude.{Err}
 use Rattle.meaning.specs.Choice.{Bytes}
 use Rattle.meaning.specs.Tokens as Tokens
 use Rattle.meaning.specs.Grammar.{standing}
@@ -17,19 +18,17 @@ use Rattle.read_tokens.specs.declared.Token.{Token}
 use Rattle.read_tokens.specs.declared.Token.TheVariants.{Name}
 use Rattle.read_tokens.proofs.Variants.{by_kind}
 use Rattle.read_tokens.specs.declared.Placed.{Placed}
-use Rattle.read_bookkeeping.specs.declared.progress.Fault.{Fault}
-use Rattle.read_bookkeeping.specs.declared.progress.Progress.{Progress}
-use Rattle.read_bookkeeping.specs.declared.progress.Parsed.TheVariants.{Stopped}
+use Rattle.answers.specs.declared.Fault.{Fault}
 use Rattle.read_bookkeeping.specs.Tables.{Inside}
-use Rattle.answers.specs.Numbers.{answer_number}
-use Rattle.read_bookkeeping.specs.Answered.{ReadingOutcome, halted, AgreesBy, Agrees}
+use Rattle.answers.specs.Numbers.{refusal_number}
+use Rattle.read_bookkeeping.specs.Answered.{Agrees}
 use Rattle.read_bookkeeping.specs.Written.{Ready, Went}
 use Rattle.read_bookkeeping.specs.Tokened.{token_fault, sign_is, Taken, Barred}
-use Rattle.read_bookkeeping.proofs.Going.{stops-by, went_on}
+use Rattle.read_bookkeeping.proofs.Going.{stops, went_on}
 
 -- a token's fault, and a token that is no name
 abbrev pub FaultOf : Placed → Fault → Type 0
-FaultOf t fault = (answer_number fault.answer ≡ token_fault t.token) × (fault.place ≡ t.place)
+FaultOf t fault = (refusal_number fault.refusal ≡ token_fault t.token) × (fault.place ≡ t.place)
 
 abbrev pub NoName : Token → Type 0
 NoName t = (name : Span) → t ≡ Name name → ⊥
@@ -100,19 +99,13 @@ module _ {A : Type 0} {text : Bytes} {mode : Tokens.Mode} {byte at : ℕ} (next 
   passes_on t = rw (t.unrolled, eq-eqb byte byte refl)
 
   pub passes-not : {fault : Fault} → Barred text mode byte at fault
-      → Reading.pass byte (stream text mode at) next ≡ Reading.stopped (answer_number fault.answer) fault.place
+      → Reading.pass byte (stream text mode at) next ≡ Reading.stopped (refusal_number fault.refusal) fault.place
   passes-not b = rw (b.unrolled, b.other, b.number, b.place)
 
   -- a byte that isn't there stops a reader that begins with it
-  pub barred-stops-by : {P R : Type 0} {outcome : R → ReadingOutcome P} {Reads : A → List Tokens.Placed → P → Type 0} {r : R} {fault : Fault}
-      → outcome r ≡ halted fault
-      → Barred text mode byte at fault
-      → AgreesBy outcome Reads (Reading.pass byte (stream text mode at) next) r
-  barred-stops-by h b = stops-by h (passes-not b)
-
-  pub barred-stops : {Reads : A → List Tokens.Placed → Progress → Type 0} {fault : Fault} → Barred text mode byte at fault
-      → Agrees Reads (Reading.pass byte (stream text mode at) next) (Stopped fault)
-  barred-stops b = barred-stops-by refl b
+  pub barred-stops : {P : Type 0} {Reads : A → List Tokens.Placed → P → Type 0} {fault : Fault} → Barred text mode byte at fault
+      → Agrees Reads (Reading.pass byte (stream text mode at) next) (Err fault)
+  barred-stops b = stops (passes-not b)
 
 -- NAMES
 
@@ -151,16 +144,10 @@ module _ {text : Bytes} {mode : Tokens.Mode} {at : ℕ} {t : Placed} (c : Comes 
 
 -- a token is refused
 module _ {text : Bytes} {mode : Tokens.Mode} {at : ℕ} {t : Placed} {fault : Fault} {A : Type 0} {p : Reading.Parsed A} where
-  pub refused-by : {P R : Type 0} {outcome : R → ReadingOutcome P} {Reads : A → List Tokens.Placed → P → Type 0} {r : R} → outcome r ≡ halted fault →
-      Comes text mode at t
-      → p ≡ Reading.refuse (placed_of text t)
+  pub refused : {P : Type 0} {Reads : A → List Tokens.Placed → P → Type 0} → Comes text mode at t → p ≡ Reading.refuse (placed_of text t)
       → FaultOf t fault
-      → AgreesBy outcome Reads p r
-  refused-by h c e f = stops-by h (e ∙ rw (f.0 ∙ fault-same text t.place t.past t.token, f.1))
-
-  pub refused : {Reads : A → List Tokens.Placed → Progress → Type 0} → Comes text mode at t → p ≡ Reading.refuse (placed_of text t) → FaultOf t fault
-      → Agrees Reads p (Stopped fault)
-  refused c e f = refused-by refl c e f
+      → Agrees Reads p (Err fault)
+  refused c e f = stops (e ∙ rw (f.0 ∙ fault-same text t.place t.past t.token, f.1))
 
 -- a reader may go on at a token's place and after it
 module _ {text : Bytes} {mode : Tokens.Mode} {at words : ℕ} {t : Placed} (r : Ready text at words) (c : Comes text mode at t) where

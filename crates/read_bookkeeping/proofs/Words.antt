@@ -5,9 +5,10 @@ use mathlib.Core.List.{List, [], ◌∷◌, ◌++◌, append_assoc}
 use native.Mathlib.Nat.{add-zero}
 use native.Mathlib.Numerals.{add-one}
 use native.Mathlib.Omega.{arith}
+use Rattle.std.proofs.lemmas.List.{take_all}
 use lib.Dec.{T, lt→ltb}
 use lib.ListN.{length, get_or, set, take, drop, length-append}
-use lib.Seq.{slice, slice_empty, length-slice, length-sets, length-take-le, set-set, set_comm, sets-eq, take_at, drop_at, take-append_seam}
+use lib.Seq.{length-sets, length-take-le, set-set, set_comm, sets-eq, take_at, take-suc, drop_at, take-append_seam}
 use Rattle.meaning.specs.Choice.{Bytes, every}
 use Rattle.meaning.specs.Tokens as Tokens
 use Rattle.read_tokens.specs.View.{IsClosed, characters_in, span_text}
@@ -15,12 +16,11 @@ use Rattle.read_characters.specs.View.{continued, EndsInText, StandsInString}
 use Rattle.read_characters.specs.declared.Character.{Character}
 use Rattle.read_characters.specs.declared.Character.TheVariants.{Given, Nothing, Closed, Broken}
 use Rattle.read_tokens.specs.declared.Span.{Span}
-use Rattle.meaning.proofs.Laws.Places.{slice-suc}
 use Rattle.meaning.specs.Allowed.{max_table}
 use Rattle.read_bookkeeping.specs.Tables.{Inside}
 use Rattle.read_bookkeeping.specs.Written.{written_from, WroteOnTape, string_from, is_quiet, Ready}
 use Rattle.read_bookkeeping.proofs.Lengths.{part_length}
-use Rattle.read_bookkeeping.proofs.Tabling.{every_append, every_one}
+use Rattle.read_bookkeeping.proofs.Choosing.{every_append, every_one}
 
 -- ON THE TAPE
 
@@ -106,62 +106,42 @@ on-tape {text} {x} {tape} {at = at} i h w =
 
 -- A NAME AFTER A WORD
 
--- the bytes of a part so far are copied to the tape from a place on
-pub record Copied (text : Bytes) (start : List ℕ) (first from past : ℕ) (tape : List ℕ) (to i : ℕ) : Type 0 where
-  pub onward : from ≤ i
-  pub low : i ≤ past
-  pub inside : past ≤ length text
-  pub room : first + (past - from) ≤ max_table
-  pub reached : to ≡ first + (i - from)
-  pub same : tape ≡ written_from start first (slice from i text)
-  pub quiet : T (every is_quiet (slice from i text))
+-- so many of these bytes are copied to the tape from a place on
+pub record Copied (bytes : Bytes) (start : List ℕ) (first : ℕ) (tape : List ℕ) (i : ℕ) : Type 0 where
+  pub room : first + length bytes ≤ max_table
+  pub same : tape ≡ written_from start first (take i bytes)
+  pub quiet : T (every is_quiet (take i bytes))
 
-pub copy-starts : (text : Bytes) (start : List ℕ) (first : ℕ) (x : Span) → Inside text x → first + (x.past - x.from) ≤ max_table
-    → Copied text start first x.from x.past start first x.from
+pub copy-starts : (text : Bytes) (start : List ℕ) (first : ℕ) (x : Span) (bytes : Bytes) → bytes ≡ span_text text x → Inside text x
+    → first + (x.past - x.from) ≤ max_table
+    → Copied bytes start first start 0
 unfolding every
-copy-starts text start first x p h =
+copy-starts text start first x bytes e p h =
     record {
-      onward = omega arith;
-      low = p.forward;
-      inside = p.inside;
-      room = h;
-      reached = omega arith;
-      same = rw (slice_empty x.from text) (sym (written_none start first));
-      quiet = rw (slice_empty x.from text) tt;
+      room = rw (e, part_length text x p) h;
+      same = sym (written_none start first);
+      quiet = tt;
     }
 
-module _ (text : Bytes) (start : List ℕ) (first from past : ℕ) (tape : List ℕ) (to i : ℕ) (n : Copied text start first from past tape to i) where
-  pub copy_goes : (next : List ℕ) → i < past → get_or text i 0 < 256 → next ≡ set tape to (get_or text i 0) →
-      Copied text start first from past next (to + 1) (i + 1)
+module _ (bytes : Bytes) (start : List ℕ) (first : ℕ) (tape : List ℕ) (i : ℕ) (n : Copied bytes start first tape i) where
+  pub copy_goes : (next : List ℕ) → i < length bytes → get_or bytes i 0 < 256 → next ≡ set tape (first + i) (get_or bytes i 0)
+      → Copied bytes start first next (i + 1)
   copy_goes next h b e =
-      let w : to ≡ first + length (slice from i text) =
-      n.reached ∙ rw (length-slice from i text (omega (arith, n.inside)))
-      in
+      let w : first + i ≡ first + length (take i bytes) = rw (length-take-le i bytes (omega arith)) in
+      let more : take (i + 1) bytes ≡ take i bytes ++ get_or bytes i 0 ∷ [] = rw add-one (take-suc bytes i 0 h) in
       record {
-        onward = omega (arith, n.onward);
-        low = omega arith;
-        inside = n.inside;
         room = n.room;
-        reached = omega (arith, n.reached, n.onward);
-        same =
-            e
-            ∙ rw (n.same, w, add-one, slice-suc text from i n.onward (omega (arith, n.inside)))
-            (written-snoc (slice from i text) start first (get_or text i 0));
+        same = e ∙ rw (n.same, w, more) (written-snoc (take i bytes) start first (get_or bytes i 0));
         quiet =
-            rw (add-one, slice-suc text from i n.onward (omega (arith, n.inside)))
-            (every_append is_quiet (slice from i text) (get_or text i 0 ∷ []) n.quiet
-            (every_one is_quiet (get_or text i 0) (lt→ltb (get_or text i 0) 2304 (omega arith))));
+            rw more
+            (every_append is_quiet (take i bytes) (get_or bytes i 0 ∷ []) n.quiet
+            (every_one is_quiet (get_or bytes i 0) (lt→ltb (get_or bytes i 0) 2304 (omega arith))));
       }
 
-  pub copy-ends : past ≤ i → WroteOnTape start first (slice from past text) to tape × T (every is_quiet (slice from past text))
+  pub copy-ends : length bytes ≤ i → WroteOnTape start first bytes (first + length bytes) tape × T (every is_quiet bytes)
   copy-ends h =
-      let e : i ≡ past = omega (arith, n.low) in (
-        record {
-          reached = n.reached ∙ rw (length-slice from past text n.inside, e);
-          same = rw (← e) n.same;
-        },
-        rw (← e) n.quiet,
-      )
+      let all : take i bytes ≡ bytes = take_all i bytes h in
+      (record { reached = refl; same = n.same ∙ rw all }, rw all at n.quiet)
 
 -- the word before them
 pub wrote_after : (start tape after : List ℕ) (at word to : ℕ) (ws : List ℕ) → tape ≡ set start at word → WroteOnTape tape (at + 1) ws to after

@@ -1,30 +1,35 @@
--- Items of a sentence: the table of its variables, and where an identifier and a string stand.
-use Rattle.std.specs.Prelude.{ℕ, ◌+◌, ◌≤◌, ◌<◌, ◌≡◌, true, false, List, length}
+-- Items of a sentence: its variables, and where an identifier and a string stand.
+use Rattle.std.specs.Prelude.{ℕ, ◌+◌, ◌≤◌, ◌<◌, ◌≡◌, true, false, List, length, take}
+use Rattle.std.specs.List.{All}
 use Rattle.meaning.specs.Choice.{Bytes, Name}
 use Rattle.meaning.specs.Answers.{not_allowed_here}
-use Rattle.meaning.specs.Allowed.{max_symbols}
 use Rattle.meaning.specs.Reading.{Item, item_of, is_item}
 use Rattle.read_tokens.specs.View.{IsClosed, characters_in, quotation_at, token_of}
 use Rattle.read_tokens.specs.declared.Span.{Span}
 use Rattle.read_tokens.specs.declared.Placed.{Placed}
-use Rattle.read_bookkeeping.specs.declared.progress.Fault.{Fault}
-use Rattle.answers.specs.Numbers.{answer_number}
-use Rattle.read_bookkeeping.specs.Tables.{max_parts, variable_room, table_names, Entries}
+use Rattle.answers.specs.declared.Fault.{Fault}
+use Rattle.answers.specs.Numbers.{refusal_number}
+use Rattle.read_bookkeeping.specs.declared.variables.Variables.{Variables}
+use Rattle.read_bookkeeping.specs.Tables.{Inside, names_in}
 use Rattle.read_bookkeeping.specs.Tokened.{is_word}
 
--- a table of variables
-pub record Variables (text : Bytes) (table : List ℕ) (symbols parts : ℕ) : Type 0 where
-  pub symbol_entries : Entries text table 0 symbols
-  pub part_entries : Entries text table max_symbols (max_symbols + parts)
-  pub few_symbols : symbols ≤ max_symbols
-  pub few_parts : parts ≤ max_parts
-  pub long : length table ≡ variable_room
+-- the s-variables and the e-variables of a sentence, as parts of the text
+abbrev pub symbol_spans : Variables → List Span
+symbol_spans v = take v.symbol_count v.symbols
 
-abbrev pub symbol_names : Bytes → List ℕ → ℕ → List Name
-symbol_names text table symbols = table_names text table 0 symbols
+abbrev pub part_spans : Variables → List Span
+part_spans v = take v.part_count v.parts
 
-abbrev pub part_names : Bytes → List ℕ → ℕ → List Name
-part_names text table parts = table_names text table max_symbols (max_symbols + parts)
+-- they lie in the text
+pub record Known (text : Bytes) (v : Variables) : Type 0 where
+  pub symbols : All (Inside text) (symbol_spans v)
+  pub parts : All (Inside text) (part_spans v)
+
+abbrev pub symbol_names : Bytes → Variables → List Name
+symbol_names text v = names_in text (symbol_spans v)
+
+abbrev pub part_names : Bytes → Variables → List Name
+part_names text v = names_in text (part_spans v)
 
 -- the identifier of a variable that stands after a place
 pub record Identifier (text : Bytes) (at : ℕ) (x : Span) : Type 0 where
@@ -53,5 +58,5 @@ pub record NoItem (text : Bytes) (t : Placed) : Type 0 where
 pub record WordRefused (text : Bytes) (t : Placed) (fault : Fault) : Type 0 where
   pub other : is_item (token_item text t) ≡ false
   pub word : is_word (token_of text t.token t.place t.past) ≡ true
-  pub number : answer_number fault.answer ≡ not_allowed_here
+  pub number : refusal_number fault.refusal ≡ not_allowed_here
   pub place : fault.place ≡ t.place

@@ -1,5 +1,5 @@
 -- Single tokens of the code: their faults, the bytes that stand for themselves, words, and passing one.
-use Rattle.std.specs.Prelude.{ℕ, ◌≤◌, ◌<◌, ◌≡◌, Bool, true, false, List, [], ◌∷◌, eqb, length}
+use Rattle.std.specs.Prelude.{ℕ, ◌≤◌, ◌<◌, ◌≡◌, Bool, true, false, List, [], ◌∷◌, eqb, length, Result, Ok, Err}
 use Rattle.meaning.specs.Choice.{Bytes, pick}
 use Rattle.meaning.specs.Answers.{malformed_token, not_allowed_here}
 use Rattle.meaning.specs.Tokens as Tokens
@@ -8,10 +8,8 @@ use Rattle.meaning.specs.Reading.{Parsed, stopped, parsed, fault_of, is_sign}
 use Rattle.read_tokens.specs.View.{stream}
 use Rattle.read_tokens.specs.declared.Token.{Token}
 use Rattle.read_tokens.specs.declared.Token.TheVariants.{Name, Symbol, Part, Word, Quoted, Sign, End, Malformed}
-use Rattle.read_bookkeeping.specs.declared.progress.Fault.{Fault}
-use Rattle.read_bookkeeping.specs.declared.progress.Passed.{Passed}
-use Rattle.read_bookkeeping.specs.declared.progress.Passed.TheVariants.{Past, Refused}
-use Rattle.answers.specs.Numbers.{answer_number}
+use Rattle.answers.specs.declared.Fault.{Fault}
+use Rattle.answers.specs.Numbers.{refusal_number}
 
 abbrev pub token_fault : Token → ℕ
 token_fault (Name name) = not_allowed_here
@@ -74,9 +72,9 @@ pub record Barred (text : Bytes) (mode : Tokens.Mode) (byte at : ℕ) (fault : F
   pub rest : List Tokens.Placed
   pub unrolled : stream text mode at ≡ token ∷ rest
   pub other : is_sign byte token.token ≡ false
-  pub number : answer_number fault.answer ≡ fault_of token.token
+  pub number : refusal_number fault.refusal ≡ fault_of token.token
   pub place : fault.place ≡ token.place
 
-abbrev pub Passes : Bytes → Tokens.Mode → ℕ → ℕ → Passed → Type 0
-Passes text mode byte at (Past past) = Taken text mode byte at past
-Passes text mode byte at (Refused fault) = Barred text mode byte at fault
+abbrev pub Passes : Bytes → Tokens.Mode → ℕ → ℕ → Result ℕ Fault → Type 0
+Passes text mode byte at (Ok past) = Taken text mode byte at past
+Passes text mode byte at (Err fault) = Barred text mode byte at fault

@@ -4,4 +4,5 @@
 
 pub mod names;
 pub mod progress;
+pub mod variables;
 pub mod writing;

@@ -10,7 +10,7 @@ ghost use Rattle.read_bookkeeping.specs.Written.{is_quiet, Ready, WroteOnTape, s
 use read_characters::{Character, next_character};
 use read_tokens::Span;
 
-// A word past the tape's end is left out: `reading::read` requires a tape on which none is.
+// A word past the tape's end is left out: `read_table::read` requires a tape on which none is.
 pub fn put(tape: &mut [u32], at: usize, word: u32)
     ensures { tape.new ≡ set tape.old at word }
 {
@@ -25,16 +25,11 @@ pub fn put_bytes(text: &[u8], tape: &mut [u32], at: usize, x: Span) -> usize
     ensures { WroteOnTape tape.old at (span_text text.now x) result tape.new ×
         T (every is_quiet (span_text text.now x)) }
 {
-    let past = x.past;
-    let mut to = at;
-    let mut i = x.from;
-    while i < past {
-        let byte = text[i];
-        put(tape, to, byte as u32);
-        to += 1;
-        i += 1;
+    let bytes = x.of(text);
+    for (i, byte) in bytes.iter().enumerate() {
+        put(tape, at + i, u32::from(*byte));
     }
-    to
+    at + bytes.len()
 }
 
 // A word, and the bytes of a part of the text after it.
@@ -54,7 +49,7 @@ pub fn put_name(text: &[u8], tape: &mut [u32], at: usize, kind: usize, x: Span) 
         ((kind + (x.past - x.from)) ∷ span_text text.now x) result tape.new
         × T (every is_quiet (span_text text.now x)) }
 {
-    let word = (kind + (x.past - x.from)) as u32;
+    let word = (kind + x.len()) as u32;
     put_named(text, tape, at, word, x)
 }
 
@@ -67,18 +62,18 @@ pub fn put_characters(text: &[u8], tape: &mut [u32], at: usize, from: usize) -> 
 {
     let mut to = at;
     let mut i = from;
+    // Each character begins where the one before it ended, so no `for` counts them.
     loop {
         match next_character(text, i) {
             Character::Given(byte, past) => {
-                put(tape, to, byte as u32);
+                put(tape, to, u32::from(byte));
                 to += 1;
                 i = past;
             }
             Character::Nothing(past) => {
                 i = past;
             }
-            Character::Closed(_) => return to,
-            Character::Broken(_) => return to,
+            Character::Closed(_) | Character::Broken(_) => return to,
         }
     }
 }

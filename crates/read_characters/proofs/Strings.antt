@@ -55,9 +55,15 @@ pub record Coding (text : Bytes) (first from value at : ℕ) : Type 0 where
   pub inside : at ≤ length text
 
 module _ (text : Bytes) (first from value at : ℕ) where
-  pub code-ends : Coding text first from value at → length text ≤ at → StandsInString text (coded first) from from (Given value at)
+  pub code-ends : Coding text first from value at → length text ≤ at
+      → StandsInString text (coded first) from from (Given value (length text))
   unfolding quotation
-  code-ends r h = record { same = λ characters. r.same characters ∙ rw (nothing text at h); passes = (r.onward, r.inside) }
+  code-ends r h =
+      let e : at ≡ length text = omega (arith, r.inside) in
+      record {
+        same = λ characters. r.same characters ∙ rw (nothing text at h, nothing text (length text) (omega arith), e);
+        passes = (omega (arith, r.onward, r.inside), omega arith);
+      }
 
   -- the code so far, before a byte that is a digit or not
   pub record CodingAt (is_digit : Bool) : Type 0 where
@@ -102,28 +108,36 @@ module _ (text : Bytes) (first from value at : ℕ) where
 
 -- WHAT STANDS THERE
 
+-- a byte stands at a place of the text
+pub record ByteHere (text : Bytes) (at b : ℕ) : Type 0 where
+  pub inside : at < length text
+  pub same : b ≡ get_or text at 0
+
 -- what a byte does says what stands there
-module _ (text : Bytes) (state : Quoting) (at low : ℕ) (h : (at < length text) × (low ≤ at + 1)) where
+module _ (text : Bytes) (state : Quoting) (at low b : ℕ) (h : ByteHere text at b × (low ≤ at + 1)) where
   passes-byte : (low ≤ at + 1) × (at + 1 ≤ length text)
-  passes-byte = omega arith
+  passes-byte = omega (arith, h.0.inside)
 
-  pub stands-given : (v : ℕ) → Turns state (get_or text at 0) (λ characters. goes_on plain (characters ++ v ∷ [])) →
+  does-here : {does : Bytes → Turn} → Turns state b does → Turns state (get_or text at 0) does
+  does-here e = rw (← h.0.same) e
+
+  pub stands-given : (v : ℕ) → Turns state b (λ characters. goes_on plain (characters ++ v ∷ [])) →
       StandsInString text state at low (Given v (at + 1))
-  stands-given v e = record { same = taking text state at h.0 e; passes = passes-byte }
+  stands-given v e = record { same = taking text state at h.0.inside (does-here e); passes = passes-byte }
 
-  pub stands-nothing : Turns state (get_or text at 0) (goes_on plain) → StandsInString text state at low (Nothing (at + 1))
-  stands-nothing e = record { same = taking text state at h.0 e; passes = passes-byte }
+  pub stands-nothing : Turns state b (goes_on plain) → StandsInString text state at low (Nothing (at + 1))
+  stands-nothing e = record { same = taking text state at h.0.inside (does-here e); passes = passes-byte }
 
-  pub stands-closed : Turns state (get_or text at 0) closes → StandsInString text state at low (Closed (at + 1))
-  stands-closed e = record { same = taking text state at h.0 e; passes = passes-byte }
+  pub stands-closed : Turns state b closes → StandsInString text state at low (Closed (at + 1))
+  stands-closed e = record { same = taking text state at h.0.inside (does-here e); passes = passes-byte }
 
-  pub stands-broken : Turns state (get_or text at 0) (λ characters. breaks) → StandsInString text state at low (Broken (at + 1))
-  stands-broken e = record { same = taking text state at h.0 e; passes = tt }
+  pub stands-broken : Turns state b (λ characters. breaks) → StandsInString text state at low (Broken (at + 1))
+  stands-broken e = record { same = taking text state at h.0.inside (does-here e); passes = tt }
 
-  pub stands-later : (next : Quoting) (r : Character) → Turns state (get_or text at 0) (goes_on next) → StandsInString text next (at + 1) (at + 1) r →
+  pub stands-later : (next : Quoting) (r : Character) → Turns state b (goes_on next) → StandsInString text next (at + 1) (at + 1) r →
       StandsInString text state at low r
   stands-later next r e s = record {
-    same = λ characters. taking text state at h.0 e characters ∙ s.same characters;
+    same = λ characters. taking text state at h.0.inside (does-here e) characters ∙ s.same characters;
     passes =
         further r s.passes;
   }

@@ -20,58 +20,50 @@ pub enum Character {
     Broken(usize),
 }
 
-// A code: decimal digits as long as they go, from the value of those before.
+// A code: decimal digits as long as they go, from the value of those before. The loop counts places: one of them is
+// handed back.
 fn code(text: &[u8], from: usize, first: usize) -> Character
     requires { (first < byte_count) × (from ≤ length text.now) }
     ensures { StandsInString text.now (Tokens.coded first) from from result }
 {
     let mut value = first;
-    let mut at = from;
-    while at < text.len() {
+    for at in from..text.len() {
         let byte = text[at];
         if !is_digit(byte) {
             return Character::Given(value as u8, at);
         }
         value = value * 10 + (byte - b'0') as usize;
-        at += 1;
         if BYTE_COUNT <= value {
-            return Character::Broken(at);
+            return Character::Broken(at + 1);
         }
     }
-    Character::Given(value as u8, at)
+    Character::Given(value as u8, text.len())
 }
 
 // After a `\`.
 fn escape(text: &[u8], at: usize) -> Character
     ensures { StandsInString text.now Tokens.escaped at at result }
 {
-    if text.len() <= at {
+    let Some(&byte) = text.get(at) else {
         return Character::Broken(at);
-    }
-    let byte = text[at];
+    };
     let past = at + 1;
     match byte {
         b'"' | b'\'' | b'\\' => Character::Given(byte, past),
         b'n' => Character::Given(b'\n', past),
         b't' => Character::Given(b'\t', past),
         b'\n' => Character::Nothing(past),
-        _ => {
-            if is_digit(byte) {
-                code(text, past, (byte - b'0') as usize)
-            } else {
-                Character::Broken(past)
-            }
-        }
+        _ if is_digit(byte) => code(text, past, (byte - b'0') as usize),
+        _ => Character::Broken(past),
     }
 }
 
 pub fn next_character(text: &[u8], at: usize) -> Character
     ensures { StandsInString text.now Tokens.plain at (at + 1) result }
 {
-    if text.len() <= at {
+    let Some(&byte) = text.get(at) else {
         return Character::Broken(at);
-    }
-    let byte = text[at];
+    };
     let past = at + 1;
     match byte {
         b'\'' => Character::Closed(past),

@@ -1,18 +1,19 @@
 -- The conditions' reader.
 use Prim.Native.Nat.{ℕ, zero, suc, ◌+◌, ◌-◌, ◌*◌, ◌≤◌, ◌<◌}
 use mathlib.Core.Path.{◌≡◌, refl, sym, ◌∙◌, ap}
-use mathlib.Core.Bool.{Bool, true, false, not}
+use mathlib.Core.Bool.{Bool, true, false, true≢false}
 use mathlib.Core.List.{List, [], ◌∷◌, ◌++◌, append-nil, append_assoc}
-use mathlib.Core.Option.{Option, none, some}
+use mathlib.Core.Option as maybe
+use Rattle.std.specs.Prelude.{Option, Some, None, Result, Ok, Err, IfErr}
 use native.Mathlib.Omega.{arith}
-use lib.Dec.{T, eqb, lt→ltb}
+use lib.Dec.{T, eqb, ltb, lt→ltb}
 use lib.ListN.{length, get_or}
 use lib.Seq.{length-slice}
 use types.Run.{OneOf, miss}
 use denote.Enum.Declared.{tag_of}
-use borrow.Author.Tests.{eq-eqb, ne_eqb}
+use borrow.Author.Tests.{eq-eqb, ne_eqb, eqb-true, ltb-true, ltb-false}
 use Rattle.meaning.specs.Choice.{Bytes, Name, pick, both, every, same_bytes}
-use Rattle.meaning.specs.Classes.{Class, class_number}
+use Rattle.meaning.specs.Classes.{Class, digit, upper, lower, alphabetic, blank, class_number}
 use Rattle.meaning.specs.Tree.{Subject, Condition}
 use Rattle.meaning.specs.Answers.{over_limit}
 use Rattle.meaning.specs.Names.{predicate_of}
@@ -33,37 +34,32 @@ use Rattle.read_tokens.specs.declared.Token.{Token}
 use Rattle.read_tokens.specs.declared.Token.TheVariants.{Quoted}
 use Rattle.read_tokens.proofs.Variants.{by_kind}
 use Rattle.read_tokens.specs.declared.Placed as Code
-use Rattle.answers.specs.declared.Answer.{Answer}
-use Rattle.answers.specs.declared.Answer.TheVariants.{OverLimit, WrongName}
-use Rattle.read_bookkeeping.specs.declared.names.Class.{Class as CodeClass}
-use Rattle.read_bookkeeping.specs.declared.names.Predicate.{Predicate}
-use Rattle.read_bookkeeping.specs.declared.names.Predicate.TheVariants.{Asks, NoPredicate}
-use Rattle.read_bookkeeping.specs.Classed.{class_meant, predicate_meant}
-use Rattle.read_bookkeeping.specs.declared.progress.Fault.{Fault}
+use Rattle.answers.specs.declared.Fault.{Fault}
+use Rattle.answers.specs.declared.Refusal.TheVariants.{WrongName}
+use Rattle.byte_classes.specs.declared.Class.{Class as CodeClass}
+use Rattle.byte_classes.specs.Classed.{class_meant, class_found}
 use Rattle.read_bookkeeping.specs.declared.progress.Progress.{Progress}
-use Rattle.read_bookkeeping.specs.declared.progress.Parsed.{Parsed as CodeParsed}
-use Rattle.read_bookkeeping.specs.declared.progress.Parsed.TheVariants.{Stopped, Done}
+use Rattle.read_bookkeeping.specs.declared.variables.Variables.{Variables}
 use Rattle.read_bookkeeping.specs.Tables.{Inside}
-use Rattle.answers.specs.Numbers.{answer_number}
+use Rattle.answers.specs.Numbers.{fault_number}
 use Rattle.read_bookkeeping.specs.Answered.{Agrees}
 use Rattle.read_bookkeeping.specs.Written.{WroteOnTape, is_quiet, Ready, Went}
 use Rattle.read_bookkeeping.specs.Tokened.{sign_is, Taken, Barred}
-use Rattle.read_bookkeeping.specs.Items.{Variables, symbol_names, part_names}
-use Rattle.read_conditions.specs.declared.Named.{Named}
-use Rattle.read_conditions.specs.declared.Named.TheVariants.{Variable, Other}
-use Rattle.read_conditions.specs.declared.Closing.{Closing}
-use Rattle.read_conditions.specs.declared.Closing.TheVariants.{Says, NoTruth}
+use Rattle.read_bookkeeping.specs.Items.{Known, symbol_names, part_names}
+use Rattle.read_conditions.specs.declared.VariableKind.{VariableKind}
+use Rattle.read_conditions.specs.declared.VariableKind.TheVariants as kind
+use Rattle.read_conditions.specs.declared.Variable.{Variable}
 use Rattle.tape_words.specs.Words.{subject_of}
-use Rattle.read_conditions.specs.Conditions.{variable_in, variable_names, kind_number, condition_end, condition_on}
-use Rattle.read_conditions.specs.Conditions.{closing_as, truth_said, truth_between, Standing, Before, ConditionRead, ConditionsRead}
+use Rattle.read_conditions.specs.Conditions.{variable_in, variable_names, is_part, kind_number, condition_end, condition_on}
+use Rattle.read_conditions.specs.Conditions.{truth_found, truth_said, truth_between, Standing, Before, ConditionRead, ConditionsRead}
 use Rattle.meaning_accepting.proofs.Reading.Basics.{no_value}
-use Rattle.read_bookkeeping.proofs.Choosing.{both_true, no-fault-here, a-fault-here}
+use Rattle.std.proofs.lemmas.Option.{none-some, same_Some}
+use Rattle.read_bookkeeping.proofs.Choosing.{every_append, both_true, not-refused}
 use Rattle.read_bookkeeping.proofs.Lengths.{too_long, short-enough, within}
-use Rattle.read_bookkeeping.proofs.Going.{check-wrong, stops, reads, has-read, stops-too, follow-alone, makes, behind, behind_more, went-none}
+use Rattle.read_bookkeeping.proofs.Going.{checked-wrong, refused-wrong, stops, reads, has-read, stops-too, follow-alone, makes, behind, behind_more, went-none}
 use Rattle.read_bookkeeping.proofs.Going.{ready-after, went-from, went_then}
 use Rattle.read_bookkeeping.proofs.Items.{variable_token, variable_item, identifier-inside, variable-at, variable-here, item-then}
-use Rattle.read_bookkeeping.proofs.Tabling.{every_append}
-use Rattle.read_bookkeeping.proofs.Tokening.{FaultOf, NoName, NameFirst, sign-shown, takes, passes_on, passes-not, barred-stops, names-not, refused}
+use Rattle.read_bookkeeping.proofs.Tokening.{FaultOf, NoName, NameFirst, sign-shown, takes, passes_on, barred-stops, names-not, refused}
 use Rattle.read_bookkeeping.proofs.Tokening.{ready-past, ready-taken, went-before}
 
 -- A CONDITION'S VARIABLE
@@ -71,9 +67,9 @@ use Rattle.read_bookkeeping.proofs.Tokening.{ready-past, ready-taken, went-befor
 abbrev no_variable : List ℕ
 no_variable = 0 ∷ 3 ∷ 4 ∷ 5 ∷ 6 ∷ 7 ∷ []
 
-pub no-variable : (k : Token) → OneOf no_variable (tag_of token.the_type k) → Other ≡ variable_in k
+pub no-variable : (k : Token) → OneOf no_variable (tag_of token.the_type k) → None ≡ variable_in k
 no-variable =
-    by_kind (λ k. OneOf no_variable (tag_of token.the_type k) → Other ≡ variable_in k) (λ n o. refl) (λ x o. absurd (miss no_variable 1 tt o))
+    by_kind (λ k. OneOf no_variable (tag_of token.the_type k) → None ≡ variable_in k) (λ n o. refl) (λ x o. absurd (miss no_variable 1 tt o))
     (λ x o. absurd (miss no_variable 2 tt o)) (λ o. refl) (λ n o. refl) (λ b o. refl) (λ o. refl) (λ o. refl)
 
 -- a token that is no variable is refused where one is to stand
@@ -82,29 +78,44 @@ Refuses text place past k =
     Sound text k place past → (symbols parts : List Name) (t : Tokens.Placed) (next : Subject → Parsed Condition)
     → subject_on (item_of (token_of text k place past)) symbols parts t next ≡ Reading.refuse t
 
-abbrev Tells : Bytes → ℕ → ℕ → Token → Named → Type 0
-Tells text place past k (Variable is_part x) = k ≡ variable_token is_part x
-Tells text place past k Other = Refuses text place past k
+abbrev Tells : Bytes → ℕ → ℕ → Token → Option Variable → Type 0
+Tells text place past k (Some v) = k ≡ variable_token (is_part v.kind) v.identifier
+Tells text place past k None = Refuses text place past k
 
 tells : (text : Bytes) (place past : ℕ) (k : Token) → Tells text place past k (variable_in k)
 tells text place past =
     by_kind (λ k. Tells text place past k (variable_in k)) (λ n s ss ps t next. refl) (λ x. refl) (λ x. refl) (λ s ss ps t next. rw s)
     (λ n s ss ps t next. refl) (λ b s ss ps t next. refl) (λ s ss ps t next. refl) (λ s ss ps t next. refl)
 
--- what is asked of the pattern's variables of a kind
-subject-asked : {A : Type 0} (text : Bytes) (table : List ℕ) (symbols parts : ℕ) (is_part : Bool) (x : Name) (t : Tokens.Placed)
+-- what is (asked text vs v) of the pattern's variables of a kind
+subject-asked : {A : Type 0} (text : Bytes) (vs : Variables) (k : VariableKind) (x : Name) (t : Tokens.Placed)
     (next : Subject → Parsed A)
-    → subject_on (variable_item is_part x) (symbol_names text table symbols) (part_names text table parts) t next
-    ≡ Reading.where_faultless (subject_fault (variable_names text table symbols parts is_part) x) t (next (subject_of is_part x))
-subject-asked text table symbols parts false x t next = refl
-subject-asked text table symbols parts true x t next = refl
+    → subject_on (variable_item (is_part k) x) (symbol_names text vs) (part_names text vs) t next
+    ≡ Reading.where_faultless (subject_fault (variable_names text vs k) x) t (next (subject_of (is_part k) x))
+subject-asked text vs kind.Symbol x t next = refl
+subject-asked text vs kind.Part x t next = refl
 
 -- its word carries the length of its identifier, its kind, its truth value and its class
-subject-tape : (is_part : Bool) (x : Name) {word : ℕ} (truth class : ℕ)
-    → word ≡ condition_word + length x * condition_size + kind_number is_part + truth + class
-    → subject_tape (truth + class) (subject_of is_part x) ≡ word ∷ x
-subject-tape false x truth class e = rw e (ap (λ (w : ℕ). w ∷ x) (omega arith))
-subject-tape true x truth class e = rw e (ap (λ (w : ℕ). w ∷ x) (omega arith))
+subject-tape : (k : VariableKind) (x : Name) {word : ℕ} (truth class : ℕ)
+    → word ≡ condition_word + length x * condition_size + kind_number k + truth + class
+    → subject_tape (truth + class) (subject_of (is_part k) x) ≡ word ∷ x
+subject-tape kind.Symbol x truth class e = rw e (ap (λ (w : ℕ). w ∷ x) (omega arith))
+subject-tape kind.Part x truth class e = rw e (ap (λ (w : ℕ). w ∷ x) (omega arith))
+
+kind-low : (k : VariableKind) → kind_number k ≤ condition_part
+kind-low kind.Symbol = omega arith
+kind-low kind.Part = omega arith
+
+truth-low : (truth : Bool) → truth_number truth ≤ condition_truth
+truth-low true = omega arith
+truth-low false = omega arith
+
+class-low : (c : Class) → class_number c < class_count
+class-low digit = omega arith
+class-low upper = omega arith
+class-low lower = omega arith
+class-low alphabetic = omega arith
+class-low blank = omega arith
 
 -- THE CLOSING STRING
 
@@ -112,26 +123,26 @@ abbrev all_but_quoted : List ℕ
 all_but_quoted = 0 ∷ 1 ∷ 2 ∷ 3 ∷ 5 ∷ 6 ∷ 7 ∷ []
 
 no-string : (text : Bytes) (k : Token) (place past : ℕ) (three : Bool) → OneOf all_but_quoted (tag_of token.the_type k)
-    → Reading.truth_of (token_of text k place past) three ≡ none
+    → Reading.truth_of (token_of text k place past) three ≡ maybe.none
 no-string text k place past three =
-    by_kind (λ t. OneOf all_but_quoted (tag_of token.the_type t) → Reading.truth_of (token_of text t place past) three ≡ none)
+    by_kind (λ t. OneOf all_but_quoted (tag_of token.the_type t) → Reading.truth_of (token_of text t place past) three ≡ maybe.none)
     (λ n o. refl) (λ x o. refl) (λ x o. refl)
     (λ o. refl) (λ n o. absurd (miss all_but_quoted 4 tt o)) (λ b o. refl) (λ o. refl) (λ o. refl) k
 
 -- what a token says that says nothing, and that says a truth value
-pub says_nothing : (o : Option Bool) → NoTruth ≡ closing_as o → o ≡ none
-says_nothing none e = refl
-says_nothing (some truth) e = let z : ◌≡◌ {A = ℕ} 1 0 = cc in absurd (omega arith)
+pub says_nothing : (o : maybe.Option Bool) → None ≡ truth_found o → o ≡ maybe.none
+says_nothing maybe.none e = refl
+says_nothing (maybe.some truth) e = absurd (none-some truth e)
 
-pub says_truth : (o : Option Bool) {truth : Bool} → Says truth ≡ closing_as o → o ≡ some truth
-says_truth none e = let z : ◌≡◌ {A = ℕ} 0 1 = cc in absurd (omega arith)
-says_truth (some truth) e = cc
+pub says_truth : (o : maybe.Option Bool) {truth : Bool} → Some truth ≡ truth_found o → o ≡ maybe.some truth
+says_truth maybe.none {truth} e = absurd (none-some truth (sym e))
+says_truth (maybe.some said) {truth} e = ap maybe.some (sym (same_Some truth said e))
 
-pub truth-none : (text : Bytes) (t : Code.Placed) → OneOf all_but_quoted (tag_of token.the_type t.token) → NoTruth ≡ closing_as (truth_said text t)
+pub truth-none : (text : Bytes) (t : Code.Placed) → OneOf all_but_quoted (tag_of token.the_type t.token) → None ≡ truth_found (truth_said text t)
 truth-none text t o = rw (no-string text t.token t.place t.past (eqb t.past (t.place + 3)) o)
 
 module _ (text : Bytes) (t : Code.Placed) (count : ℕ) (e : t.token ≡ Quoted count) where
-  pub truth-long : (t.past ≡ t.place + 3 → ⊥) → NoTruth ≡ closing_as (truth_said text t)
+  pub truth-long : (t.past ≡ t.place + 3 → ⊥) → None ≡ truth_found (truth_said text t)
   truth-long d = rw (e, ne_eqb t.past (t.place + 3) d)
 
   module _ (s : Standing text t) (d : t.past ≡ t.place + 3) where
@@ -139,20 +150,20 @@ module _ (text : Bytes) (t : Code.Placed) (count : ℕ) (e : t.token ≡ Quoted 
     middle = get_or text (t.place + 1) 0
 
     three : truth_said text t
-        ≡ pick (both (eqb middle (truth_byte true)) true) (some true) (pick (both (eqb middle (truth_byte false)) true) (some false) none)
+        ≡ pick (both (eqb middle (truth_byte true)) true) (maybe.some true) (pick (both (eqb middle (truth_byte false)) true) (maybe.some false) maybe.none)
     unfolding same_bytes
     three =
         let q = rw e at s.sound in
         rw (e, eq-eqb t.past (t.place + 3) d, three-bytes text t.place t.past d s.inside q.0)
 
-    pub truth-three : {closing : Closing} → closing ≡ closing_as (truth_between middle) → closing ≡ closing_as (truth_said text t)
+    pub truth-three : {closing : Option Bool} → closing ≡ truth_found (truth_between middle) → closing ≡ truth_found (truth_said text t)
     truth-three v =
         let e : truth_said text t ≡ truth_between middle =
         three ∙ rw (← (both_true (eqb middle (truth_byte true))), ← (both_true (eqb middle (truth_byte false)))) in
-        v ∙ ap closing_as (sym e)
+        v ∙ ap truth_found (sym e)
 
 -- a condition that is read from a later place on is read from here
-earlier : {text : Bytes} {at from words : ℕ} {tape tape' : List ℕ} {p q : Parsed Condition} {r : CodeParsed} → at ≤ from → p ≡ q
+earlier : {text : Bytes} {at from words : ℕ} {tape tape' : List ℕ} {p q : Parsed Condition} {r : Result Progress Fault} → at ≤ from → p ≡ q
     → Agrees (ConditionRead text from words tape tape') q r
     → Agrees (ConditionRead text at words tape tape') p r
 earlier {q = q} h e a =
@@ -160,10 +171,10 @@ earlier {q = q} h e a =
 
 -- A CONDITION AFTER ITS VARIABLE
 
-abbrev EndAgrees : Bytes → ℕ → ℕ → List ℕ → List ℕ → Bool → Span → Class → CodeParsed → Type 0
-EndAgrees text from words tape tape' is_part x c r =
+abbrev EndAgrees : Bytes → ℕ → ℕ → List ℕ → List ℕ → Variable → Class → Result Progress Fault → Type 0
+EndAgrees text from words tape tape' v c r =
     Agrees (ConditionRead text from words tape tape')
-    (condition_end c (subject_of is_part (View.span_text text x)) (stream text Tokens.inside from)) r
+    (condition_end c (subject_of (is_part v.kind) (View.span_text text v.identifier)) (stream text Tokens.inside from)) r
 
 -- what is left of a condition at its closing string
 abbrev with_truth : Class → Subject → Bool → List Tokens.Placed → Parsed Condition
@@ -172,7 +183,7 @@ with_truth c v truth rest = parsed (record { predicate = c; subject = v; expecte
 -- the token is a string, and the tokens go on after it
 abbrev GoesOn : Bytes → ℕ → ℕ → Bool → Bool → Token → Type 0
 GoesOn text place past is truth k =
-    Reading.truth_of (token_of text k place past) is ≡ some truth
+    Reading.truth_of (token_of text k place past) is ≡ maybe.some truth
     → pick (Tokens.is_last_token (token_of text k place past)) [] (stream text (Tokens.mode_after Tokens.inside (token_of text k place past)) past) ≡
     stream text Tokens.inside past
 
@@ -191,52 +202,39 @@ before-room r b = (
 )
 
 -- `>` and `:` stand after a condition's variable, and a token that says this after them
-pub record ClosingAt (text : Bytes) (from words : ℕ) (x : Span) (close colon : ℕ) (t : Code.Placed) (closing : Closing) : Type 0 where
+pub record ClosingAt (text : Bytes) (from words : ℕ) (x : Span) (close colon : ℕ) (t : Code.Placed) (closing : Option Bool) : Type 0 where
   pub ready : Ready text from words
   pub variable : Before text words from x
   pub closed : Taken text Tokens.inside Tokens.greater_than from close
   pub parted : Taken text Tokens.inside Tokens.colon close colon
   pub first : Comes text Tokens.inside colon t
-  pub truth : closing ≡ closing_as (truth_said text t)
+  pub truth : closing ≡ truth_found (truth_said text t)
 
-module _ (is_part : Bool) {text : Bytes} {from words : ℕ} {x : Span} where
-  pub end-no-close : Before text words from x → (c : Class) {tape tape' : List ℕ} {fault : Fault}
-      → Barred text Tokens.inside Tokens.greater_than from fault
-      → EndAgrees text from words tape tape' is_part x c (Stopped fault)
-  end-no-close b c k = barred-stops _ k
-
-  pub end-no-colon : Before text words from x → (c : Class) {tape tape' : List ℕ} {close : ℕ} {fault : Fault} →
-      Taken text Tokens.inside Tokens.greater_than from close → Barred text Tokens.inside Tokens.colon close fault
-      → EndAgrees text from words tape tape' is_part x c (Stopped fault)
-  end-no-colon b c t k = stops (passes_on _ t ∙ passes-not _ k)
-
-  module _ {close colon : ℕ} {t : Code.Placed} {closing : Closing} (a : ClosingAt text from words x close colon t closing) (c : Class) where
-    at-truth : condition_end c (subject_of is_part (View.span_text text x)) (stream text Tokens.inside from)
-        ≡ Reading.pass_truth (stream text Tokens.inside colon) (with_truth c (subject_of is_part (View.span_text text x)))
+module _ (v : Variable) {text : Bytes} {from words : ℕ} where
+  module _ {close colon : ℕ} {t : Code.Placed} {closing : Option Bool} (a : ClosingAt text from words v.identifier close colon t closing) (c : Class) where
+    at-truth : condition_end c (subject_of (is_part v.kind) (View.span_text text v.identifier)) (stream text Tokens.inside from)
+        ≡ Reading.pass_truth (stream text Tokens.inside colon) (with_truth c (subject_of (is_part v.kind) (View.span_text text v.identifier)))
     at-truth = passes_on _ a.closed ∙ passes_on _ a.parted
 
-    pub end-no-truth : {tape tape' : List ℕ} {fault : Fault} → closing ≡ NoTruth → FaultOf t fault
-        → EndAgrees text from words tape tape' is_part x c (Stopped fault)
+    pub end-no-truth : {tape tape' : List ℕ} {fault : Fault} → closing ≡ None → FaultOf t fault
+        → EndAgrees text from words tape tape' v c (Err fault)
     end-no-truth e f = refused a.first (at-truth ∙ rw (a.first.unrolled, says_nothing (truth_said text t) (rw e at a.truth))) f
 
-    pub end_reads : {tape tape' : List ℕ} {expected : Bool} {kind truth class word after : ℕ} → closing ≡ Says expected
-        → (kind ≡ kind_number is_part) × (kind ≤ condition_part)
-        → (truth ≡ truth_number expected) × (truth ≤ condition_truth)
-        → (class ≡ class_number c) × (class < class_count)
-        → word ≡ condition_word + (x.past - x.from) * condition_size + kind + truth + class
-        → WroteOnTape tape words (word ∷ View.span_text text x) after tape' × T (every is_quiet (View.span_text text x))
-        → EndAgrees text from words tape tape' is_part x c (Done (record { at = t.past; words = after }))
+    pub end_reads : {tape tape' : List ℕ} {expected : Bool} {word after : ℕ} → closing ≡ Some expected
+        → word ≡ condition_word + (v.identifier.past - v.identifier.from) * condition_size + kind_number v.kind + truth_number expected + class_number c
+        → WroteOnTape tape words (word ∷ View.span_text text v.identifier) after tape' × T (every is_quiet (View.span_text text v.identifier))
+        → EndAgrees text from words tape tape' v c (Ok (record { at = t.past; words = after }))
     unfolding every
-    end_reads {expected = expected} {truth = truth} {class = class} {word = word} {after = after} e h u k w o =
+    end_reads {expected = expected} {word = word} {after = after} e w o =
         let b = a.variable in
-        let same : truth_said text t ≡ some expected = says_truth (truth_said text t) (rw e at a.truth) in
-        let l : length (View.span_text text x) ≡ x.past - x.from =
-        length-slice x.from x.past text (omega (arith, b.before, a.ready.inside)) in
-        let q : subject_tape (truth_number expected + class_number c) (subject_of is_part (View.span_text text x)) ≡ word ∷ View.span_text text x =
-        rw (← u.0, ← k.0) (subject-tape is_part (View.span_text text x) truth class (rw (l, ← h.0) w))
+        let same : truth_said text t ≡ maybe.some expected = says_truth (truth_said text t) (rw e at a.truth) in
+        let l : length (View.span_text text v.identifier) ≡ v.identifier.past - v.identifier.from =
+        length-slice v.identifier.from v.identifier.past text (omega (arith, b.before, a.ready.inside)) in
+        let q : subject_tape (truth_number expected + class_number c) (subject_of (is_part v.kind) (View.span_text text v.identifier)) ≡ word ∷ View.span_text text v.identifier =
+        subject-tape v.kind (View.span_text text v.identifier) (truth_number expected) (class_number c) (rw l w)
         in
-        let m : after ≡ words + suc (length (View.span_text text x)) = o.0.reached in
-        reads (record { predicate = c; subject = subject_of is_part (View.span_text text x); expected = expected }) (stream text Tokens.inside t.past)
+        let m : after ≡ words + suc (length (View.span_text text v.identifier)) = o.0.reached in
+        reads (record { predicate = c; subject = subject_of (is_part v.kind) (View.span_text text v.identifier); expected = expected }) (stream text Tokens.inside t.past)
         (at-truth ∙ rw (a.first.unrolled, same, goes_on_lem text t.place t.past _ _ t.token same))
         (record {
           tokens = refl;
@@ -250,160 +248,163 @@ module _ (is_part : Bool) {text : Bytes} {from words : ℕ} {x : Span} where
               };
           quiet =
               rw q
-              (both-pass (is_quiet word) (every is_quiet (View.span_text text x)) (lt→ltb word 2304 (omega (arith, b.short, h.1, u.1, k.1))) o.1);
+              (both-pass (is_quiet word) (every is_quiet (View.span_text text v.identifier)) (lt→ltb word 2304 (omega (arith, w, b.short, kind-low v.kind, truth-low expected, class-low c))) o.1);
         })
 
 -- A CONDITION AFTER ITS PREDICATE
 
--- with the variables of a table
-abbrev on_names : Bytes → List ℕ → ℕ → ℕ → Class → List Tokens.Placed → Parsed Condition
-on_names text table symbols parts = condition_on (symbol_names text table symbols) (part_names text table parts)
+-- with the variables of a sentence
+abbrev on_names : Bytes → Variables → Class → List Tokens.Placed → Parsed Condition
+on_names text vs = condition_on (symbol_names text vs) (part_names text vs)
 
-abbrev OnAgrees : Bytes → List ℕ → ℕ → ℕ → ℕ → ℕ → List ℕ → List ℕ → Class → CodeParsed → Type 0
-OnAgrees text table symbols parts from words tape tape' c r =
-    Agrees (ConditionRead text from words tape tape') (on_names text table symbols parts c (stream text Tokens.inside from)) r
+abbrev OnAgrees : Bytes → Variables → ℕ → ℕ → List ℕ → List ℕ → Class → Result Progress Fault → Type 0
+OnAgrees text vs from words tape tape' c r =
+    Agrees (ConditionRead text from words tape tape') (on_names text vs c (stream text Tokens.inside from)) r
 
 -- the first token after a condition's predicate
-pub record OnToken (text table : List ℕ) (symbols parts from words : ℕ) (t : Code.Placed) : Type 0 where
-  pub known : Variables text table symbols parts
+pub record OnToken (text : Bytes) (vs : Variables) (from words : ℕ) (t : Code.Placed) : Type 0 where
+  pub known : Known text vs
   pub ready : Ready text from words
   pub first : Comes text Tokens.inside from t
 
 -- it is a variable
-pub record OnVariable {text table : List ℕ} {symbols parts from words : ℕ} {t : Code.Placed}
-    (on : OnToken text table symbols parts from words t) (is_part : Bool) (x : Span) : Type 0 where
-  pub variable : t.token ≡ variable_token is_part x
+pub record OnVariable {text : Bytes} {vs : Variables} {from words : ℕ} {t : Code.Placed}
+    (on : OnToken text vs from words t) (v : Variable) : Type 0 where
+  pub variable : t.token ≡ variable_token (is_part v.kind) v.identifier
 
--- what is wrong with it, and whether that is nothing
-pub record OnAsked {text table : List ℕ} {symbols parts from words : ℕ} {t : Code.Placed}
-    {on : OnToken text table symbols parts from words t} {is_part : Bool} {x : Span}
-    (s : OnVariable on is_part x) (number : ℕ) (is : Bool) : Type 0 where
-  pub fault : number ≡ subject_fault (variable_names text table symbols parts is_part) (View.span_text text x)
-  pub accepted : is ≡ eqb number 0
+-- what is wrong with it
+abbrev asked : Bytes → Variables → Variable → ℕ
+asked text vs v = subject_fault (variable_names text vs v.kind) (View.span_text text v.identifier)
 
-told : (text : Bytes) (t : Code.Placed) (named : Named) → named ≡ variable_in t.token → Tells text t.place t.past t.token named
+told : (text : Bytes) (t : Code.Placed) (named : Option Variable) → named ≡ variable_in t.token → Tells text t.place t.past t.token named
 told text t named e = rw e (tells text t.place t.past t.token)
 
-module _ {text table : List ℕ} {symbols parts from words : ℕ} {t : Code.Placed} where
-  pub on-no-variable : OnToken text table symbols parts from words t → (c : Class) {tape tape' : List ℕ} {fault : Fault}
-      → Other ≡ variable_in t.token
+module _ {text : Bytes} {vs : Variables} {from words : ℕ} {t : Code.Placed} where
+  pub on-no-variable : OnToken text vs from words t → (c : Class) {tape tape' : List ℕ} {fault : Fault}
+      → None ≡ variable_in t.token
       → FaultOf t fault
-      → OnAgrees text table symbols parts from words tape tape' c (Stopped fault)
+      → OnAgrees text vs from words tape tape' c (Err fault)
   on-no-variable a c o f =
       let k = a.first in
       refused k
-      (rw k.unrolled (told text t Other o k.sound (symbol_names text table symbols) (part_names text table parts) (placed_of text t) _))
+      (rw k.unrolled (told text t None o k.sound (symbol_names text vs) (part_names text vs) (placed_of text t) _))
       f
 
-  module _ {on : OnToken text table symbols parts from words t} {is_part : Bool} {x : Span} where
-    pub on-variable : Variable is_part x ≡ variable_in t.token → OnVariable on is_part x
-    on-variable e = record { variable = told text t (Variable is_part x) e }
+  module _ {on : OnToken text vs from words t} {v : Variable} where
+    pub on-variable : Some v ≡ variable_in t.token → OnVariable on v
+    on-variable e = record { variable = told text t (Some v) e }
 
-    pub on-inside : OnVariable on is_part x → Inside text x
-    on-inside a = identifier-inside (variable-at on.first is_part _ a.variable)
+    pub on-inside : OnVariable on v → Inside text v.identifier
+    on-inside a = identifier-inside (variable-at on.first (is_part v.kind) _ a.variable)
 
-    at-subject : OnVariable on is_part x → (c : Class) → on_names text table symbols parts c (stream text Tokens.inside from)
-        ≡ Reading.where_faultless (subject_fault (variable_names text table symbols parts is_part) (View.span_text text x)) (placed_of text t)
-        (condition_end c (subject_of is_part (View.span_text text x)) (stream text Tokens.inside t.past))
+    at-subject : OnVariable on v → (c : Class) → on_names text vs c (stream text Tokens.inside from)
+        ≡ Reading.where_faultless (asked text vs v) (placed_of text t)
+        (condition_end c (subject_of (is_part v.kind) (View.span_text text v.identifier)) (stream text Tokens.inside t.past))
     at-subject a c =
-        let h = variable-here on.first is_part _ a.variable in
+        let h = variable-here on.first (is_part v.kind) _ a.variable in
         rw ((item-then on.first (rw h.is h.some)).unrolled, h.is)
-        (subject-asked text table symbols parts is_part (View.span_text text x) (placed_of text t) _)
+        (subject-asked text vs v.kind (View.span_text text v.identifier) (placed_of text t) _)
 
-    pub on-wrong : {s : OnVariable on is_part x} {answer : Answer} {is : Bool} → OnAsked s (answer_number answer) is
-        → (c : Class) {tape tape' : List ℕ}
-        → not is ≡ true
-        → OnAgrees text table symbols parts from words tape tape' c (Stopped (record { answer = answer; place = t.place }))
-    on-wrong {s} {answer} a c w =
-        stops (at-subject s c ∙ rw (← a.fault) (check-wrong (answer_number answer) (placed_of text t) _ (a-fault-here a.fault a.accepted w)))
+    pub on-wrong : OnVariable on v → (c : Class) {tape tape' : List ℕ} {U : Type 0} {r : Result U Fault} {fault : Fault} → r ≡ Err fault
+        → fault_number r ≡ (asked text vs v)
+        → IfErr r (λ f. f.place ≡ t.place)
+        → OnAgrees text vs from words tape tape' c (Err fault)
+    on-wrong s c e n p = stops (at-subject s c ∙ checked-wrong n (placed_of text t) _ e p)
 
-    module _ {s : OnVariable on is_part x} {number : ℕ} {is : Bool} (a : OnAsked s number is) (w : not is ≡ false) where
-      right : subject_fault (variable_names text table symbols parts is_part) (View.span_text text x) ≡ 0
-      right = no-fault-here a.fault a.accepted w
-
-      pub on-before : Ready text t.past words × Before text words t.past x
+    module _ (s : OnVariable on v) (right : (asked text vs v) ≡ 0) where
+      pub on-before : Ready text t.past words × Before text words t.past v.identifier
       on-before =
-          let i = variable-at on.first is_part _ s.variable in (
+          let i = variable-at on.first (is_part v.kind) _ s.variable in (
             ready-past on.ready on.first,
             record {
               after = omega (arith, on.ready.charged, i.after);
               some = i.some;
-              before = omega (arith, (variable-here on.first is_part _ s.variable).ends);
-              short = within text x (identifier-inside i) max_identifier 3 _ right;
+              before = omega (arith, (variable-here on.first (is_part v.kind) _ s.variable).ends);
+              short = within text v.identifier (identifier-inside i) max_identifier 3 _ right;
             },
           )
 
       -- what is read from a later place on is read from here
-      pub on-reads : (c : Class) {tape tape' : List ℕ} {r : CodeParsed} → EndAgrees text t.past words tape tape' is_part x c r
-          → OnAgrees text table symbols parts from words tape tape' c r
+      pub on-reads : (c : Class) {tape tape' : List ℕ} {r : Result Progress Fault} → EndAgrees text t.past words tape tape' v c r
+          → OnAgrees text vs from words tape tape' c r
       on-reads c e = earlier (omega (arith, on.first.onward, on.first.forward)) (at-subject s c ∙ rw right) e
 
 -- A CONDITION AFTER ITS `,`
 
--- with the variables of a table
-abbrev condition_names : Bytes → List ℕ → ℕ → ℕ → List Tokens.Placed → Parsed Condition
-condition_names text table symbols parts = Reading.parse_condition (symbol_names text table symbols) (part_names text table parts)
+-- with the variables of a sentence
+abbrev condition_names : Bytes → Variables → List Tokens.Placed → Parsed Condition
+condition_names text vs = Reading.parse_condition (symbol_names text vs) (part_names text vs)
 
-abbrev ConditionAgrees : Bytes → List ℕ → ℕ → ℕ → ℕ → ℕ → List ℕ → List ℕ → CodeParsed → Type 0
-ConditionAgrees text table symbols parts from words tape tape' r =
-    Agrees (ConditionRead text from words tape tape') (condition_names text table symbols parts (stream text Tokens.inside from)) r
+abbrev ConditionAgrees : Bytes → Variables → ℕ → ℕ → List ℕ → List ℕ → Result Progress Fault → Type 0
+ConditionAgrees text vs from words tape tape' r =
+    Agrees (ConditionRead text from words tape tape') (condition_names text vs (stream text Tokens.inside from)) r
 
 abbrev with_name : (Class → List Tokens.Placed → Parsed Condition) → ℕ → Name → List Tokens.Placed → Parsed Condition
 with_name next place n ts = Reading.with_class (predicate_of n) place λ class. next class ts
 
 -- `<` stands after the `,`, and a token after it
-pub record OpenedAt (text table : List ℕ) (symbols parts from words start : ℕ) (t : Code.Placed) : Type 0 where
-  pub known : Variables text table symbols parts
+pub record OpenedAt (text : Bytes) (vs : Variables) (from words start : ℕ) (t : Code.Placed) : Type 0 where
+  pub known : Known text vs
   pub ready : Ready text from words
   pub opened : Taken text Tokens.inside Tokens.less_than from start
   pub first : Comes text Tokens.naming start t
 
 -- it is a name
-pub record NamedAt {text table : List ℕ} {symbols parts from words start : ℕ} {t : Code.Placed}
-    (o : OpenedAt text table symbols parts from words start t) (n : Span) : Type 0 where
+pub record NamedAt {text : Bytes} {vs : Variables} {from words start : ℕ} {t : Code.Placed}
+    (o : OpenedAt text vs from words start t) (n : Span) : Type 0 where
   pub name : NameFirst text Tokens.naming start t n
 
-module _ {text table : List ℕ} {symbols parts from words : ℕ} where
-  pub open-not : {tape tape' : List ℕ} {fault : Fault} → Variables text table symbols parts → Barred text Tokens.inside Tokens.less_than from fault
-      → ConditionAgrees text table symbols parts from words tape tape' (Stopped fault)
+module _ {text : Bytes} {vs : Variables} {from words : ℕ} where
+  pub open-not : {tape tape' : List ℕ} {fault : Fault} → Known text vs → Barred text Tokens.inside Tokens.less_than from fault
+      → ConditionAgrees text vs from words tape tape' (Err fault)
   unfolding Reading.parse_condition
   open-not known b = barred-stops _ b
 
   module _ {start : ℕ} {t : Code.Placed} where
-    at_name : OpenedAt text table symbols parts from words start t
-        → condition_names text table symbols parts (stream text Tokens.inside from)
-        ≡ Reading.pass_name (λ n. Reading.length_fault n 0) (stream text Tokens.naming start) (with_name (on_names text table symbols parts))
+    at_name : OpenedAt text vs from words start t
+        → condition_names text vs (stream text Tokens.inside from)
+        ≡ Reading.pass_name (λ n. Reading.length_fault n 0) (stream text Tokens.naming start) (with_name (on_names text vs))
     unfolding Reading.parse_condition
     at_name a = passes_on _ a.opened
 
-    pub name-not : {tape tape' : List ℕ} {fault : Fault} → OpenedAt text table symbols parts from words start t
+    pub name-not : {tape tape' : List ℕ} {fault : Fault} → OpenedAt text vs from words start t
         → NoName t.token
         → FaultOf t fault
-        → ConditionAgrees text table symbols parts from words tape tape' (Stopped fault)
+        → ConditionAgrees text vs from words tape tape' (Err fault)
     name-not a n f = refused a.first (at_name a ∙ names-not a.first _ _ n) f
 
-    module _ {o : OpenedAt text table symbols parts from words start t} {n : Span} (a : NamedAt o n) where
+    module _ {o : OpenedAt text vs from words start t} {n : Span} (a : NamedAt o n) where
       pub name-ready : Ready text t.past words
       name-ready = ready-past (ready-taken o.ready o.opened) o.first
 
-      pub name-long : {tape tape' : List ℕ} → max_name < n.past - n.from
-          → ConditionAgrees text table symbols parts from words tape tape' (Stopped (record { answer = OverLimit; place = t.place }))
-      name-long l =
-          stops (at_name o ∙ rw (a.name.unrolled, too_long text n a.name.inside max_name l))
+      length-number : (wrong : Bool) → ltb max_name (n.past - n.from) ≡ wrong
+          → pick wrong over_limit 0 ≡ Reading.length_fault (View.span_text text n) 0
+      length-number true h = rw (too_long text n a.name.inside max_name (ltb-true max_name (n.past - n.from) h))
+      length-number false h = rw (short-enough text n a.name.inside max_name (ltb-false max_name (n.past - n.from) h))
+
+      pub name-long : {tape tape' : List ℕ} {U : Type 0} {r : Result U Fault} {fault : Fault} → r ≡ Err fault
+          → fault_number r ≡ pick (ltb max_name (n.past - n.from)) over_limit 0
+          → IfErr r (λ f. f.place ≡ t.place)
+          → ConditionAgrees text vs from words tape tape' (Err fault)
+      name-long e m q =
+          stops (at_name o ∙ rw a.name.unrolled (checked-wrong (m ∙ length-number _ refl) (standing _ t.place t.past) _ e q))
+
+      pub name-short : (number : ℕ) → 0 ≡ pick (ltb max_name (n.past - n.from)) (suc number) 0 → n.past - n.from ≤ max_name
+      name-short number e = ltb-false max_name (n.past - n.from) (not-refused _ number e)
 
       module _ (l : n.past - n.from ≤ max_name) where
-        at-class : condition_names text table symbols parts (stream text Tokens.inside from)
-            ≡ with_name (on_names text table symbols parts) t.place (View.span_text text n) (stream text Tokens.inside t.past)
+        at-class : condition_names text vs (stream text Tokens.inside from)
+            ≡ with_name (on_names text vs) t.place (View.span_text text n) (stream text Tokens.inside t.past)
         at-class = at_name o ∙ rw (a.name.unrolled, short-enough text n a.name.inside max_name l)
 
-        pub class-not : {tape tape' : List ℕ} {p : Predicate} → predicate_meant p ≡ predicate_of (View.span_text text n) → p ≡ NoPredicate
-            → ConditionAgrees text table symbols parts from words tape tape' (Stopped (record { answer = WrongName; place = t.place }))
+        pub class-not : {tape tape' : List ℕ} {p : Option CodeClass} → class_found p ≡ predicate_of (View.span_text text n) → p ≡ None
+            → ConditionAgrees text vs from words tape tape' (Err (record { refusal = WrongName; place = t.place }))
         class-not d e = stops (at-class ∙ rw (← d, e))
 
-        pub class-reads : {tape tape' : List ℕ} {r : CodeParsed} {p : Predicate} {class : CodeClass} → predicate_meant p ≡
-            predicate_of (View.span_text text n) → p ≡ Asks class
-            → OnAgrees text table symbols parts t.past words tape tape' (class_meant class) r
-            → ConditionAgrees text table symbols parts from words tape tape' r
+        pub class-reads : {tape tape' : List ℕ} {r : Result Progress Fault} {p : Option CodeClass} {class : CodeClass} → class_found p ≡
+            predicate_of (View.span_text text n) → p ≡ Some class
+            → OnAgrees text vs t.past words tape tape' (class_meant class) r
+            → ConditionAgrees text vs from words tape tape' r
         class-reads d e a₁ =
             earlier (omega (arith, o.opened.onward, o.first.onward, o.first.forward)) (at-class ∙ rw (← d, e)) a₁
 
@@ -466,7 +467,7 @@ pub record LookedAt (text start : List ℕ) (symbols parts : List Name) (from wo
   pub first : Comes text Tokens.inside at t
   pub sign : sign_is Tokens.comma t.token ≡ comma
 
-abbrev ConditionsAgree : List ℕ → List ℕ → List Name → List Name → ℕ → ℕ → List ℕ → CodeParsed → Type 0
+abbrev ConditionsAgree : List ℕ → List ℕ → List Name → List Name → ℕ → ℕ → List ℕ → Result Progress Fault → Type 0
 ConditionsAgree text start symbols parts from words tape r =
     Agrees (ConditionsRead text from words start tape) (Reading.parse_conditions max_conditions symbols parts (stream text Tokens.inside from)) r
 
@@ -476,7 +477,7 @@ module _ {text start : List ℕ} {symbols parts : List Name} {from words : ℕ} 
   shown a = sign-shown text t Tokens.comma a.sign
 
   pub conditions-done : LookedAt text start symbols parts from words tape at to left t false
-      → ConditionsAgree text start symbols parts from words tape (Done (record { at = t.place; words = to }))
+      → ConditionsAgree text start symbols parts from words tape (Ok (record { at = t.place; words = to }))
   conditions-done a =
       let k = a.read in
       let c = a.first in
@@ -493,17 +494,26 @@ module _ {text start : List ℕ} {symbols parts : List Name} {from words : ℕ} 
     pub condition-ready : Ready text t.past to
     condition-ready = ready-past (conditions-ready a.read) a.first
 
-    pub conditions-many : left ≡ 0
-        → ConditionsAgree text start symbols parts from words tape (Stopped (record { answer = OverLimit; place = t.place }))
-    conditions-many z =
-        stops (a.read.same ∙ rw (a.first.unrolled, z, conditions-full symbols parts (placed_of text t) _ (shown a)))
+    pub conditions-many : {U : Type 0} {r : Result U Fault} {fault : Fault} → r ≡ Err fault
+        → fault_number r ≡ pick (eqb left 0) over_limit 0
+        → IfErr r (λ f. f.place ≡ t.place)
+        → ConditionsAgree text start symbols parts from words tape (Err fault)
+    conditions-many {fault = fault} e n p =
+        let w = refused-wrong (eqb left 0) e n in
+        let q : fault.place ≡ t.place = rw e at p in
+        stops
+        (a.read.same
+        ∙ rw (a.first.unrolled, eqb-true left 0 w.0, conditions-full symbols parts (placed_of text t) _ (shown a), w.1, q))
+
+    pub some-left : (number : ℕ) → 0 ≡ pick (eqb left 0) (suc number) 0 → left ≡ 0 → ⊥
+    some-left number e z = true≢false (sym (eq-eqb left 0 z) ∙ not-refused _ number e)
 
     -- what was read of it stops the conditions, or they go on after it
-    abbrev pub ConditionsOn : List ℕ → CodeParsed → Type 0
-    ConditionsOn tape' (Stopped fault) = ConditionsAgree text start symbols parts from words tape' (Stopped fault)
-    ConditionsOn tape' (Done s) = Conditioned text start symbols parts from words tape' s.at s.words (left - 1)
+    abbrev pub ConditionsOn : List ℕ → Result Progress Fault → Type 0
+    ConditionsOn tape' (Err fault) = ConditionsAgree text start symbols parts from words tape' (Err fault)
+    ConditionsOn tape' (Ok s) = Conditioned text start symbols parts from words tape' s.at s.words (left - 1)
 
-    pub conditions-on : (left ≡ 0 → ⊥) → {tape' : List ℕ} (r : CodeParsed)
+    pub conditions-on : (left ≡ 0 → ⊥) → {tape' : List ℕ} (r : Result Progress Fault)
         → Agrees (ConditionRead text t.past to tape tape') (Reading.parse_condition symbols parts (stream text Tokens.inside t.past)) r
         → ConditionsOn tape' r
     conditions-on z {tape'} r e = turned r e
@@ -525,7 +535,7 @@ module _ {text start : List ℕ} {symbols parts : List Name} {from words : ℕ} 
         goes_with : {s : Progress} (d : Condition) (rest : List Tokens.Placed)
             → Reading.parse_condition symbols parts (stream text Tokens.inside t.past) ≡ parsed d rest
             → ConditionRead text t.past to tape tape' d rest s
-            → ConditionsOn tape' (Done s)
+            → ConditionsOn tape' (Ok s)
         goes_with {s} d rest q h =
             let k = a.read in
             record {
@@ -541,8 +551,8 @@ module _ {text start : List ℕ} {symbols parts : List Name} {from words : ℕ} 
               short = k.short;
             }
 
-        turned : (r' : CodeParsed)
+        turned : (r' : Result Progress Fault)
             → Agrees (ConditionRead text t.past to tape tape') (Reading.parse_condition symbols parts (stream text Tokens.inside t.past)) r'
             → ConditionsOn tape' r'
-        turned (Stopped fault) e' = stops-too e' refl refl (λ h. at-condition ∙ rw h)
-        turned (Done s) e' = let h = has-read _ s refl e' in goes_with h.value h.rest h.same h.how
+        turned (Err fault) e' = stops-too e' refl refl (λ h. at-condition ∙ rw h)
+        turned (Ok s) e' = let h = has-read _ s refl e' in goes_with h.value h.rest h.same h.how

@@ -1,6 +1,6 @@
 -- Conditions while they are read.
-use Rattle.std.specs.Prelude.{ℕ, ◌+◌, ◌-◌, ◌≤◌, ◌<◌, ◌≡◌, Bool, true, false, List, T, eqb, length}
-use Rattle.std.proofs.Math.Option.{Option, none, some}
+use Rattle.std.specs.Prelude.{ℕ, ◌+◌, ◌-◌, ◌≤◌, ◌<◌, ◌≡◌, Bool, true, false, List, T, eqb, length, Option, Some, None}
+use Rattle.std.proofs.Math.Option as maybe
 use Rattle.meaning.specs.Choice.{Bytes, Name, pick, every}
 use Rattle.meaning.specs.Allowed.{max_identifier}
 use Rattle.meaning.specs.Classes.{Class}
@@ -16,33 +16,37 @@ use Rattle.read_tokens.specs.declared.Token.{Token}
 use Rattle.read_tokens.specs.declared.Token.TheVariants.{Name as NameToken, Symbol, Part, Word, Quoted, Sign, End}
 use Rattle.read_tokens.specs.declared.Token.TheVariants.{Malformed}
 use Rattle.read_bookkeeping.specs.declared.progress.Progress.{Progress}
+use Rattle.read_bookkeeping.specs.declared.variables.Variables.{Variables}
 use Rattle.read_bookkeeping.specs.Items.{symbol_names, part_names}
 use Rattle.read_bookkeeping.specs.Written.{is_quiet, Went}
-use Rattle.read_conditions.specs.declared.Named.{Named}
-use Rattle.read_conditions.specs.declared.Named.TheVariants.{Variable, Other}
-use Rattle.read_conditions.specs.declared.Closing.{Closing}
-use Rattle.read_conditions.specs.declared.Closing.TheVariants.{Says, NoTruth}
+use Rattle.read_conditions.specs.declared.VariableKind as kinds
+use Rattle.read_conditions.specs.declared.VariableKind.TheVariants as kind
+use Rattle.read_conditions.specs.declared.Variable.{Variable}
 
--- a token as a variable: whether it is an e-variable, and its identifier
-abbrev pub variable_in : Token → Named
-variable_in (NameToken name) = Other
-variable_in (Symbol identifier) = Variable false identifier
-variable_in (Part identifier) = Variable true identifier
-variable_in Word = Other
-variable_in (Quoted count) = Other
-variable_in (Sign b) = Other
-variable_in End = Other
-variable_in Malformed = Other
+-- a token as a variable
+abbrev pub variable_in : Token → Option Variable
+variable_in (NameToken name) = None
+variable_in (Symbol identifier) = Some (record { kind = kind.Symbol; identifier = identifier })
+variable_in (Part identifier) = Some (record { kind = kind.Part; identifier = identifier })
+variable_in Word = None
+variable_in (Quoted count) = None
+variable_in (Sign b) = None
+variable_in End = None
+variable_in Malformed = None
+
+abbrev pub is_part : kinds.VariableKind → Bool
+is_part kind.Symbol = false
+is_part kind.Part = true
 
 -- the pattern's s-variables, or its e-variables
-abbrev pub variable_names : Bytes → List ℕ → ℕ → ℕ → Bool → List Name
-variable_names text table symbols parts false = symbol_names text table symbols
-variable_names text table symbols parts true = part_names text table parts
+abbrev pub variable_names : Bytes → Variables → kinds.VariableKind → List Name
+variable_names text v kind.Symbol = symbol_names text v
+variable_names text v kind.Part = part_names text v
 
 -- the kind of a condition's variable on the tape
-abbrev pub kind_number : Bool → ℕ
-kind_number false = 0
-kind_number true = condition_part
+abbrev pub kind_number : kinds.VariableKind → ℕ
+kind_number kind.Symbol = 0
+kind_number kind.Part = condition_part
 
 -- `condition` after its variable, and from its variable on
 abbrev pub condition_end : Class → Subject → List Tokens.Placed → Parsed Condition
@@ -55,22 +59,22 @@ condition_end class v ts =
 abbrev pub condition_on : List Name → List Name → Class → List Tokens.Placed → Parsed Condition
 condition_on symbols parts class ts = pass_subject symbols parts ts λ v ts₁. condition_end class v ts₁
 
--- what a closing string says, as the code says it
-abbrev pub closing_as : Option Bool → Closing
-closing_as none = NoTruth
-closing_as (some truth) = Says truth
+-- what a closing string says, as the code's option
+abbrev pub truth_found : maybe.Option Bool → Option Bool
+truth_found maybe.none = None
+truth_found (maybe.some truth) = Some truth
 
 -- the bytes of a closing string that says one
 abbrev pub truth_size : ℕ
 truth_size = 3
 
 -- the truth value of a token, and of the byte between a closing string's quotes
-abbrev pub truth_said : Bytes → Placed → Option Bool
+abbrev pub truth_said : Bytes → Placed → maybe.Option Bool
 truth_said text t = truth_of (token_of text t.token t.place t.past) (eqb t.past (t.place + truth_size))
 
-abbrev pub truth_between : ℕ → Option Bool
+abbrev pub truth_between : ℕ → maybe.Option Bool
 truth_between byte =
-    pick (eqb byte (truth_byte true)) (some true) (pick (eqb byte (truth_byte false)) (some false) none)
+    pick (eqb byte (truth_byte true)) (maybe.some true) (pick (eqb byte (truth_byte false)) (maybe.some false) maybe.none)
 
 -- a token that ends in the text
 pub record Standing (text : Bytes) (t : Placed) : Type 0 where

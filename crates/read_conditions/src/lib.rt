@@ -1,89 +1,90 @@
 // The conditions' reader.
 #![tactic(auto)]
 
-ghost use Rattle.std.specs.Prelude.{◌≡◌, ◌≤◌, ◌<◌};
+ghost use Rattle.std.specs.Prelude.{◌≡◌, ◌+◌, ◌-◌, ◌*◌, ◌≤◌, IfErr};
 ghost use Rattle.meaning.specs.Classes.{class_number};
-ghost use Rattle.meaning.specs.Allowed.{max_conditions};
-ghost use Rattle.tape_layout.specs.Tape.{class_count, condition_truth, condition_part, truth_number};
+ghost use Rattle.meaning.specs.Allowed.{max_conditions, max_identifier};
+ghost use Rattle.tape_layout.specs.Tape.{condition_truth, condition_part, condition_size, condition_word, truth_number};
 ghost use Rattle.meaning.specs.Tokens.{inside};
 ghost use Rattle.meaning.specs.Reading as Reading;
+ghost use Rattle.byte_classes.specs.Classed.{class_meant};
 ghost use Rattle.read_tokens.specs.View.{span_text, stream};
-ghost use Rattle.answers.specs.Numbers.{answer_number};
+ghost use Rattle.answers.specs.Numbers.{fault_number};
 ghost use Rattle.read_bookkeeping.specs.Answered.{Agrees};
-ghost use Rattle.read_bookkeeping.specs.Classed.{class_meant};
 ghost use Rattle.read_bookkeeping.specs.Tables.{Inside};
 ghost use Rattle.read_bookkeeping.specs.Written.{Ready};
-ghost use Rattle.read_bookkeeping.specs.Items.{Variables, symbol_names, part_names};
+ghost use Rattle.read_bookkeeping.specs.Items.{Known, symbol_names, part_names};
 ghost use Rattle.tape_words.specs.Words.{subject_of};
-ghost use Rattle.read_conditions.specs.Conditions.{variable_in, variable_names, kind_number};
-ghost use Rattle.read_conditions.specs.Conditions.{condition_end, condition_on, closing_as, truth_between, truth_said};
+ghost use Rattle.read_conditions.specs.Conditions.{variable_in, variable_names, is_part, kind_number};
+ghost use Rattle.read_conditions.specs.Conditions.{condition_end, condition_on, truth_found, truth_between, truth_said};
 ghost use Rattle.read_conditions.specs.Conditions.{Standing, Before, ConditionRead, ConditionsRead};
 
-use answers::{Answer, is_accepted};
-use read_bookkeeping::names::{Class, Predicate, class_named, later_fault};
-use read_bookkeeping::progress::{Fault, Parsed, Passed, Progress, is_sign, pass, refuse};
+use answers::{Fault, Refusal};
+use byte_classes::Class;
+use read_bookkeeping::names::{check_later, class_named};
+use read_bookkeeping::progress::{Progress, is_sign, pass, refuse, refuse_if};
+use read_bookkeeping::variables::Variables;
 use read_bookkeeping::writing::put_named;
 use read_tokens::{Mode, Placed, Span, Token, lex};
-use tape_words::limits::{MAX_CONDITIONS, MAX_NAME, MAX_SYMBOLS};
+use tape_words::limits::{MAX_CONDITIONS, MAX_NAME};
 use tape_words::wide::{CONDITION_PART, CONDITION_SIZE, CONDITION_TRUTH, CONDITION_WORD};
 
 // The bytes of `'T'`, and of `'F'`.
 const TRUTH_SIZE: usize = 3;
 
-// A token as a variable: whether it is an e-variable, and its identifier.
-#[derive(Clone, Copy)]
-pub enum Named {
-    Variable(bool, Span),
-    Other,
+#[derive(Clone, Copy, PartialEq, Eq)]
+pub enum VariableKind {
+    Symbol,
+    Part,
 }
 
-fn variable_in(token: Token) -> Named
+impl VariableKind {
+    // On the tape.
+    fn number(self) -> usize
+        ensures { (result ≡ kind_number self) × (result ≤ condition_part) }
+    {
+        match self {
+            VariableKind::Symbol => 0,
+            VariableKind::Part => CONDITION_PART,
+        }
+    }
+}
+
+// A condition's variable: its kind, and its identifier.
+#[derive(Clone, Copy)]
+pub struct Variable {
+    kind: VariableKind,
+    identifier: Span,
+}
+
+// A token as a variable, if it is one.
+fn variable_in(token: Token) -> Option<Variable>
     ensures { result ≡ variable_in token }
 {
     match token {
-        Token::Symbol(x) => Named::Variable(false, x),
-        Token::Part(x) => Named::Variable(true, x),
-        _ => Named::Other,
+        Token::Symbol(identifier) => Some(Variable {
+            kind: VariableKind::Symbol,
+            identifier,
+        }),
+        Token::Part(identifier) => Some(Variable {
+            kind: VariableKind::Part,
+            identifier,
+        }),
+        _ => None,
     }
 }
 
-// What is wrong with a condition's variable.
-fn subject_fault(
-    text: &[u8],
-    table: &[usize],
-    symbols: usize,
-    parts: usize,
-    is_part: bool,
-    x: Span,
-) -> Answer
-    requires { Inside text.now x × Variables text.now table.now symbols parts }
-    ensures { answer_number result
-        ≡ Reading.subject_fault (variable_names text.now table.now symbols parts is_part)
-        (span_text text.now x) }
+// Refuses a condition's variable, whose token stands at a place, where something is wrong with it.
+fn check_subject(text: &[u8], variables: &Variables, v: Variable, place: usize) -> Result<(), Fault>
+    requires { Inside text.now v.identifier × Known text.now variables.now }
+    ensures number { fault_number result
+        ≡ Reading.subject_fault (variable_names text.now variables.now v.kind)
+        (span_text text.now v.identifier) }
+    ensures place { IfErr result (λ fault. fault.place ≡ place) }
 {
-    if is_part {
-        return later_fault(text, table, MAX_SYMBOLS, MAX_SYMBOLS + parts, x);
-    }
-    later_fault(text, table, 0, symbols, x)
-}
-
-// The kind of a condition's variable by its number on the tape.
-fn kind_number(is_part: bool) -> usize
-    ensures { (result ≡ kind_number is_part) × (result ≤ condition_part) }
-{
-    if is_part { CONDITION_PART } else { 0 }
-}
-
-// A class by its number on the tape.
-fn class_number(class: Class) -> usize
-    ensures { (result ≡ class_number (class_meant class)) × (result < class_count) }
-{
-    match class {
-        Class::Digit => 0,
-        Class::Upper => 1,
-        Class::Lower => 2,
-        Class::Letter => 3,
-        Class::Blank => 4,
+    match v.kind {
+        VariableKind::Symbol => check_later(text, variables.symbols(), v.identifier, place),
+        VariableKind::Part => check_later(text, variables.parts(), v.identifier, place),
     }
 }
 
@@ -94,39 +95,39 @@ fn truth_number(truth: bool) -> usize
     if truth { CONDITION_TRUTH } else { 0 }
 }
 
-// A condition's closing string: the truth value that it says, if it says one.
-#[derive(Clone, Copy)]
-pub enum Closing {
-    Says(bool),
-    NoTruth,
+// The word of a condition on the tape.
+fn condition_word(class: Class, v: Variable, expected: bool) -> u32
+    requires { (v.identifier.from ≤ v.identifier.past)
+        × (v.identifier.past - v.identifier.from ≤ max_identifier) }
+    ensures { result ≡ condition_word + (v.identifier.past - v.identifier.from) * condition_size
+        + kind_number v.kind + truth_number expected + class_number (class_meant class) }
+{
+    let size = v.identifier.len() * CONDITION_SIZE;
+    (CONDITION_WORD + size + v.kind.number() + truth_number(expected) + class.number()) as u32
 }
 
 // What a closing string says with `byte` between its quotes.
-fn truth_between(byte: u8) -> Closing
-    ensures { result ≡ closing_as (truth_between byte) }
+fn truth_between(byte: u8) -> Option<bool>
+    ensures { result ≡ truth_found (truth_between byte) }
 {
-    if byte == b'T' {
-        return Closing::Says(true);
+    match byte {
+        b'T' => Some(true),
+        b'F' => Some(false),
+        _ => None,
     }
-    if byte == b'F' {
-        return Closing::Says(false);
-    }
-    Closing::NoTruth
 }
 
-// What the token `t` says as a closing string.
-fn truth_said(text: &[u8], t: Placed) -> Closing
+// The truth value that the token `t` says as a closing string, if it says one.
+fn truth_said(text: &[u8], t: Placed) -> Option<bool>
     requires { Standing text.now t }
-    ensures { result ≡ closing_as (truth_said text.now t) }
+    ensures { result ≡ truth_found (truth_said text.now t) }
 {
-    let token = t.token;
-    let Token::Quoted(_) = token else {
-        return Closing::NoTruth;
+    let Token::Quoted(_) = t.token else {
+        return None;
     };
-    let past = t.past;
     let end = t.place + TRUTH_SIZE;
-    if past != end {
-        return Closing::NoTruth;
+    if t.past != end {
+        return None;
     }
     truth_between(text[t.place + 1])
 }
@@ -138,32 +139,22 @@ fn condition_end(
     from: usize,
     words: usize,
     class: Class,
-    is_part: bool,
-    x: Span,
-) -> Parsed
-    requires { Ready text.now from words × Before text.now words from x }
+    v: Variable,
+) -> Result<Progress, Fault>
+    requires { Ready text.now from words × Before text.now words from v.identifier }
     ensures { Agrees (ConditionRead text.now from words tape.old tape.new)
-        (condition_end (class_meant class) (subject_of is_part (span_text text.now x))
+        (condition_end (class_meant class) (subject_of (is_part v.kind) (span_text text.now v.identifier))
         (stream text.now inside from)) result }
 {
-    let close = match pass(text, from, Mode::Inside, b'>') {
-        Passed::Past(at) => at,
-        Passed::Refused(fault) => return Parsed::Stopped(fault),
-    };
-    let colon = match pass(text, close, Mode::Inside, b':') {
-        Passed::Past(at) => at,
-        Passed::Refused(fault) => return Parsed::Stopped(fault),
-    };
+    let close = pass(text, from, Mode::Inside, b'>')?;
+    let colon = pass(text, close, Mode::Inside, b':')?;
     let t = lex(text, colon, Mode::Inside);
-    let Closing::Says(expected) = truth_said(text, t) else {
-        return Parsed::Stopped(refuse(t));
+    let Some(expected) = truth_said(text, t) else {
+        return Err(refuse(t));
     };
-    let kind = kind_number(is_part);
-    let truth = truth_number(expected);
-    let number = class_number(class);
-    let word = (CONDITION_WORD + (x.past - x.from) * CONDITION_SIZE + kind + truth + number) as u32;
-    let after = put_named(text, tape, words, word, x);
-    Parsed::Done(Progress {
+    let word = condition_word(class, v, expected);
+    let after = put_named(text, tape, words, word, v.identifier);
+    Ok(Progress {
         at: t.past,
         words: after,
     })
@@ -173,108 +164,76 @@ fn condition_end(
 fn condition_on(
     text: &[u8],
     tape: &mut [u32],
-    table: &[usize],
-    symbols: usize,
-    parts: usize,
+    variables: &Variables,
     from: usize,
     words: usize,
     class: Class,
-) -> Parsed
-    requires { Ready text.now from words × Variables text.now table.now symbols parts }
+) -> Result<Progress, Fault>
+    requires { Ready text.now from words × Known text.now variables.now }
     ensures { Agrees (ConditionRead text.now from words tape.old tape.new)
-        (condition_on (symbol_names text.now table.now symbols)
-        (part_names text.now table.now parts) (class_meant class)
+        (condition_on (symbol_names text.now variables.now)
+        (part_names text.now variables.now) (class_meant class)
         (stream text.now inside from)) result }
 {
     let t = lex(text, from, Mode::Inside);
-    let token = t.token;
-    let Named::Variable(is_part, x) = variable_in(token) else {
-        return Parsed::Stopped(refuse(t));
+    let Some(v) = variable_in(t.token) else {
+        return Err(refuse(t));
     };
-    let fault = subject_fault(text, table, symbols, parts, is_part, x);
-    if !is_accepted(fault) {
-        return Parsed::Stopped(Fault {
-            answer: fault,
-            place: t.place,
-        });
-    }
-    condition_end(text, tape, t.past, words, class, is_part, x)
+    check_subject(text, variables, v, t.place)?;
+    condition_end(text, tape, t.past, words, class, v)
 }
 
 // A condition after its `,`.
 fn condition(
     text: &[u8],
     tape: &mut [u32],
-    table: &[usize],
-    symbols: usize,
-    parts: usize,
+    variables: &Variables,
     from: usize,
     words: usize,
-) -> Parsed
-    requires { Ready text.now from words × Variables text.now table.now symbols parts }
+) -> Result<Progress, Fault>
+    requires { Ready text.now from words × Known text.now variables.now }
     ensures { Agrees (ConditionRead text.now from words tape.old tape.new)
-        (Reading.parse_condition (symbol_names text.now table.now symbols)
-        (part_names text.now table.now parts) (stream text.now inside from)) result }
+        (Reading.parse_condition (symbol_names text.now variables.now)
+        (part_names text.now variables.now) (stream text.now inside from)) result }
 {
-    let open = match pass(text, from, Mode::Inside, b'<') {
-        Passed::Past(at) => at,
-        Passed::Refused(fault) => return Parsed::Stopped(fault),
-    };
+    let open = pass(text, from, Mode::Inside, b'<')?;
     let t = lex(text, open, Mode::Naming);
-    let token = t.token;
-    let Token::Name(name) = token else {
-        return Parsed::Stopped(refuse(t));
+    let Token::Name(name) = t.token else {
+        return Err(refuse(t));
     };
-    if MAX_NAME < name.past - name.from {
-        return Parsed::Stopped(Fault {
-            answer: Answer::OverLimit,
-            place: t.place,
-        });
-    }
-    let Predicate::Asks(class) = class_named(text, name) else {
-        return Parsed::Stopped(Fault {
-            answer: Answer::WrongName,
+    refuse_if(MAX_NAME < name.len(), Refusal::OverLimit, t.place)?;
+    let Some(class) = class_named(text, name) else {
+        return Err(Fault {
+            refusal: Refusal::WrongName,
             place: t.place,
         });
     };
-    condition_on(text, tape, table, symbols, parts, t.past, words, class)
+    condition_on(text, tape, variables, t.past, words, class)
 }
 
 // Reads conditions, at most eight.
 pub fn conditions(
     text: &[u8],
     tape: &mut [u32],
-    table: &[usize],
-    symbols: usize,
-    parts: usize,
+    variables: &Variables,
     from: usize,
     words: usize,
-) -> Parsed
-    requires { Ready text.now from words × Variables text.now table.now symbols parts }
+) -> Result<Progress, Fault>
+    requires { Ready text.now from words × Known text.now variables.now }
     ensures { Agrees (ConditionsRead text.now from words tape.old tape.new)
-        (Reading.parse_conditions max_conditions (symbol_names text.now table.now symbols)
-        (part_names text.now table.now parts) (stream text.now inside from)) result }
+        (Reading.parse_conditions max_conditions (symbol_names text.now variables.now)
+        (part_names text.now variables.now) (stream text.now inside from)) result }
 {
-    let mut s = Progress {
-        at: from,
-        words: words,
-    };
-    let mut left: usize = MAX_CONDITIONS;
+    let mut s = Progress { at: from, words };
+    // How many may still come. No `for` counts them: the place of one too many is refused.
+    let mut left = MAX_CONDITIONS;
     loop {
         let t = lex(text, s.at, Mode::Inside);
         if !is_sign(t, b',') {
-            return Parsed::Done(Progress { at: t.place, ..s });
+            return Ok(Progress { at: t.place, ..s });
         }
-        if left == 0 {
-            return Parsed::Stopped(Fault {
-                answer: Answer::OverLimit,
-                place: t.place,
-            });
-        }
-        match condition(text, tape, table, symbols, parts, t.past, s.words) {
-            Parsed::Stopped(fault) => return Parsed::Stopped(fault),
-            Parsed::Done(next) => s = next,
-        }
+        refuse_if(left == 0, Refusal::OverLimit, t.place)?;
+        s = condition(text, tape, variables, t.past, s.words)?;
         left -= 1;
     }
 }

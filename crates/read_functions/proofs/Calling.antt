@@ -13,18 +13,18 @@ use Rattle.meaning.specs.Grammar.{standing}
 use Rattle.meaning.specs.Reading as Reading
 use Rattle.meaning.specs.Reading.{Parsed, parsed, follow, where_faultless, name_on, pass_name}
 use Rattle.read_tokens.specs.View.{stream}
-use Rattle.read_bookkeeping.specs.declared.progress.Fault.{Fault}
+use Rattle.answers.specs.declared.Fault.{Fault}
+use Rattle.read_bookkeeping.specs.declared.variables.Variables.{Variables}
 use Rattle.read_functions.specs.declared.expressions.ExpressionCounts.{ExpressionCounts}
-use Rattle.read_functions.specs.declared.expressions.ParsedExpression.{ParsedExpression}
-use Rattle.read_functions.specs.declared.expressions.ParsedExpression.TheVariants.{Stopped, Done}
-use Rattle.read_bookkeeping.specs.Answered.{AgreesBy}
+use Rattle.std.specs.Prelude.{Result, Ok, Err}
+use Rattle.read_bookkeeping.specs.Answered.{Agrees}
 use Rattle.read_bookkeeping.specs.Written.{Ready, Went}
 use Rattle.read_bookkeeping.specs.Tokened.{unless_word, Taken, Barred}
 use Rattle.read_bookkeeping.specs.Items.{symbol_names}
-use Rattle.read_functions.specs.Expressions.{expression_outcome, progress_at, Going, ExpressionRead}
+use Rattle.read_functions.specs.Expressions.{progress_at, Going, ExpressionRead}
 use Rattle.read_functions.specs.Expressions.{CalledName, call_opening, OpeningRead, CallRead}
 use Rattle.read_functions.specs.Expressions.{CloseGives, Closes}
-use Rattle.read_bookkeeping.proofs.Going.{stops-by, reads-by, ReadAt, has-read, went_then, word-went, ready-after, stops-too}
+use Rattle.read_bookkeeping.proofs.Going.{stops, reads, ReadAt, has-read, went_then, word-went, ready-after, stops-too}
 use Rattle.read_bookkeeping.proofs.Tokening.{passes_on, passes-not}
 use Rattle.read_bookkeeping.proofs.Refusing.{word-at-once}
 use Rattle.read_functions.proofs.Opened.{opening_at, OpeningAgrees}
@@ -72,43 +72,43 @@ call-is argument depth so t ts =
 -- THE READER
 
 -- what the definition reads of a call after its `<`
-abbrev pub call_at : Bytes → List ℕ → ℕ → ℕ → ℕ → ℕ → ExpressionCounts → ℕ → Parsed Reading.Called
-call_at text table symbols parts bound depth s place =
-    Reading.parse_call (Reading.parse_expression bound (symbol_names text table symbols)) depth (progress_at text table parts s)
+abbrev pub call_at : Bytes → Variables → ℕ → ℕ → ExpressionCounts → ℕ → Parsed Reading.Called
+call_at text v bound depth s place =
+    Reading.parse_call (Reading.parse_expression bound (symbol_names text v)) depth (progress_at text v s)
     (standing (Tokens.sign Tokens.less_than) place s.at)
     (stream text Tokens.naming s.at)
 
-abbrev pub CallAgrees : Bytes → List ℕ → ℕ → ℕ → ℕ → ℕ → ExpressionCounts → ℕ → List ℕ → List ℕ → ParsedExpression → Type 0
-CallAgrees text table symbols parts bound depth s place tape tape' r =
-    AgreesBy expression_outcome (CallRead text table symbols parts s tape tape') (call_at text table symbols parts bound depth s place) r
+abbrev pub CallAgrees : Bytes → Variables → ℕ → ℕ → ExpressionCounts → ℕ → List ℕ → List ℕ → Result ExpressionCounts Fault → Type 0
+CallAgrees text v bound depth s place tape tape' r =
+    Agrees (CallRead text v s tape tape') (call_at text v bound depth s place) r
 
 -- what it reads of an expression
-abbrev pub expression_at : Bytes → List ℕ → ℕ → ℕ → ℕ → ℕ → ExpressionCounts → Parsed Reading.Items
-expression_at text table symbols parts bound depth start =
-    Reading.parse_expression bound (symbol_names text table symbols) depth (progress_at text table parts start) (stream text Tokens.inside start.at)
+abbrev pub expression_at : Bytes → Variables → ℕ → ℕ → ExpressionCounts → Parsed Reading.Items
+expression_at text v bound depth start =
+    Reading.parse_expression bound (symbol_names text v) depth (progress_at text v start) (stream text Tokens.inside start.at)
 
-abbrev pub ExpressionAgrees : Bytes → List ℕ → ℕ → ℕ → ℕ → ℕ → ExpressionCounts → List ℕ → List ℕ → ParsedExpression → Type 0
-ExpressionAgrees text table symbols parts bound depth start tape tape' r =
-    AgreesBy expression_outcome (ExpressionRead text table symbols parts start tape tape')
-    (unless_word (expression_at text table symbols parts bound depth start)) r
+abbrev pub ExpressionAgrees : Bytes → Variables → ℕ → ℕ → ExpressionCounts → List ℕ → List ℕ → Result ExpressionCounts Fault → Type 0
+ExpressionAgrees text v bound depth start tape tape' r =
+    Agrees (ExpressionRead text v start tape tape')
+    (unless_word (expression_at text v bound depth start)) r
 
 -- with every bound that is large enough
-abbrev pub ExpressionsAgree : Bytes → List ℕ → ℕ → ℕ → ℕ → ExpressionCounts → List ℕ → List ℕ → ParsedExpression → Type 0
-ExpressionsAgree text table symbols parts depth start tape tape' r =
-    (bound : ℕ) → length (stream text Tokens.inside start.at) ≤ bound → ExpressionAgrees text table symbols parts bound depth start tape tape' r
+abbrev pub ExpressionsAgree : Bytes → Variables → ℕ → ExpressionCounts → List ℕ → List ℕ → Result ExpressionCounts Fault → Type 0
+ExpressionsAgree text v depth start tape tape' r =
+    (bound : ℕ) → length (stream text Tokens.inside start.at) ≤ bound → ExpressionAgrees text v bound depth start tape tape' r
 
-module _ (text table : List ℕ) (symbols parts bound depth : ℕ) (s : ExpressionCounts) (place : ℕ) where
-  at-opening : call_at text table symbols parts bound depth s place
-      ≡ follow (opening_at text depth s place) (after_name (Reading.parse_expression bound (symbol_names text table symbols)) (suc depth)
-      (progress_at text table parts s))
+module _ (text : Bytes) (v : Variables) (bound depth : ℕ) (s : ExpressionCounts) (place : ℕ) where
+  at-opening : call_at text v bound depth s place
+      ≡ follow (opening_at text depth s place) (after_name (Reading.parse_expression bound (symbol_names text v)) (suc depth)
+      (progress_at text v s))
   at-opening =
-      call-is (Reading.parse_expression bound (symbol_names text table symbols)) depth (progress_at text table parts s)
+      call-is (Reading.parse_expression bound (symbol_names text v)) depth (progress_at text v s)
       (standing (Tokens.sign Tokens.less_than) place s.at)
       (stream text Tokens.naming s.at)
 
-  pub call-unopened : {tape tape' : List ℕ} {r : ParsedExpression} {fault : Fault} → OpeningAgrees text depth s place tape tape' r → r ≡ Stopped fault
-      → CallAgrees text table symbols parts bound depth s place tape tape' (Stopped fault)
-  call-unopened a e = stops-too a (ap expression_outcome e) refl (λ h. at-opening ∙ rw h)
+  pub call-unopened : {tape tape' : List ℕ} {fault : Fault} → OpeningAgrees text depth s place tape tape' (Err fault)
+      → CallAgrees text v bound depth s place tape tape' (Err fault)
+  call-unopened a = stops-too a refl refl (λ h. at-opening ∙ rw h)
 
 -- the call is open
 pub record Opened (text : Bytes) (depth : ℕ) (s : ExpressionCounts) (place : ℕ) (tape tape₁ : List ℕ) (start : ExpressionCounts) : Type 0 where
@@ -119,44 +119,42 @@ module _ {text : Bytes} {depth : ℕ} {s : ExpressionCounts} {place : ℕ} {tape
   argument-shorter : length (stream text Tokens.inside start.at) ≤ length (stream text Tokens.naming s.at)
   argument-shorter = rw o.read.how.tokens at o.read.how.shorter
 
-  pub argument-going : {table : List ℕ} {symbols parts : ℕ} → Going text table symbols parts s → Going text table symbols parts start
+  pub argument-going : {v : Variables} → Going text v s → Going text v start
   argument-going g =
       going-after g o.read.how.went (omega (arith, o.read.how.counted, o.read.how.few)) (rw o.read.how.passed g.passed)
 
   -- the argument was read
-  pub argument-ready : {table : List ℕ} {symbols parts : ℕ} {tape₂ : List ℕ} {r : ParsedExpression} {argument : ExpressionCounts}
-      → ExpressionsAgree text table symbols parts (depth + 1) start tape₁ tape₂ r
-      → r ≡ Done argument
+  pub argument-ready : {v : Variables} {tape₂ : List ℕ} {argument : ExpressionCounts}
+      → ExpressionsAgree text v (depth + 1) start tape₁ tape₂ (Ok argument)
       → Ready text argument.at argument.words
-  argument-ready a e =
-      (has-read _ _ refl (rw e at (a (length (stream text Tokens.inside start.at)) (omega arith)))).how.going.ready
+  argument-ready a = (has-read _ _ refl (a (length (stream text Tokens.inside start.at)) (omega arith))).how.going.ready
 
-  module _ (table : List ℕ) (symbols parts bound : ℕ) where
-    from-argument : call_at text table symbols parts bound depth s place
-        ≡ follow (expression_at text table symbols parts bound (depth + 1) start) (after_argument o.read.value)
+  module _ (v : Variables) (bound : ℕ) where
+    from-argument : call_at text v bound depth s place
+        ≡ follow (expression_at text v bound (depth + 1) start) (after_argument o.read.value)
     from-argument =
         let r = o.read in
-        at-opening text table symbols parts bound depth s place ∙ rw (r.same, r.how.tokens, r.how.counted, r.how.passed, add-one depth)
+        at-opening text v bound depth s place ∙ rw (r.same, r.how.tokens, r.how.counted, r.how.passed, add-one depth)
 
     -- a word after the argument is no `>`
-    at-argument : call_at text table symbols parts bound depth s place
-        ≡ follow (unless_word (expression_at text table symbols parts bound (depth + 1) start)) (after_argument o.read.value)
+    at-argument : call_at text v bound depth s place
+        ≡ follow (unless_word (expression_at text v bound (depth + 1) start)) (after_argument o.read.value)
     at-argument =
         from-argument
-        ∙ word-at-once (expression_at text table symbols parts bound (depth + 1) start) (after_argument o.read.value) (λ given w at past rest. refl)
+        ∙ word-at-once (expression_at text v bound (depth + 1) start) (after_argument o.read.value) (λ given w at past rest. refl)
 
     -- the argument is read
     module _ {tape₂ tape₃ : List ℕ} {argument : ExpressionCounts}
-        (h : ReadAt (ExpressionRead text table symbols parts start tape₁ tape₂)
-        (unless_word (expression_at text table symbols parts bound (depth + 1) start)) argument) where
+        (h : ReadAt (ExpressionRead text v start tape₁ tape₂)
+        (unless_word (expression_at text v bound (depth + 1) start)) argument) where
       close-barred : {fault : Fault} → Barred text Tokens.inside Tokens.greater_than argument.at fault
-          → CallAgrees text table symbols parts bound depth s place tape tape₃ (Stopped fault)
-      close-barred x = stops-by refl (at-argument ∙ rw (h.same, h.how.tokens) (passes-not _ x))
+          → CallAgrees text v bound depth s place tape tape₃ (Err fault)
+      close-barred x = stops (at-argument ∙ rw (h.same, h.how.tokens) (passes-not _ x))
 
       close-done : {at : ℕ} → Taken text Tokens.inside Tokens.greater_than argument.at at
           → tape₃ ≡ set tape₂ argument.words (tape_word close_kind 0)
-          → CallAgrees text table symbols parts bound depth s place tape tape₃
-          (Done (record { at = at; words = argument.words + 1; items = argument.items; passed = argument.passed }))
+          → CallAgrees text v bound depth s place tape tape₃
+          (Ok (record { at = at; words = argument.words + 1; items = argument.items; passed = argument.passed }))
       close-done {at} x y =
           let w : Went text argument.at argument.words tape₂ at (argument.words + 1) tape₃ (tape_word close_kind 0 ∷ []) =
           word-went h.how.going.ready x.onward x.inside y
@@ -164,7 +162,7 @@ module _ {text : Bytes} {depth : ℕ} {s : ExpressionCounts} {place : ℕ} {tape
           let short : suc (length (stream text Tokens.inside at)) ≤ length (stream text Tokens.inside start.at) =
           rw (h.how.tokens, x.unrolled) at h.how.shorter
           in
-          reads-by refl _ (stream text Tokens.inside at) (at-argument ∙ rw (h.same, h.how.tokens) (passes_on _ x))
+          reads _ (stream text Tokens.inside at) (at-argument ∙ rw (h.same, h.how.tokens) (passes_on _ x))
           (record {
             tokens = refl;
             shorter = omega (arith, argument-shorter);
@@ -176,19 +174,17 @@ module _ {text : Bytes} {depth : ℕ} {s : ExpressionCounts} {place : ℕ} {tape
           })
 
       -- what comes of the `>`
-      close-with : (r : ParsedExpression) → CloseGives text argument tape₂ tape₃ r →
-          CallAgrees text table symbols parts bound depth s place tape tape₃ r
-      close-with (Stopped fault) x = close-barred x
-      close-with (Done next) x = rw x.1 (close-done x.0 x.2)
+      close-with : (r : Result ExpressionCounts Fault) → CloseGives text argument tape₂ tape₃ r →
+          CallAgrees text v bound depth s place tape tape₃ r
+      close-with (Err fault) x = close-barred x
+      close-with (Ok next) x = rw x.1 (close-done x.0 x.2)
 
-  module _ {table : List ℕ} {symbols parts : ℕ} {tape₂ : List ℕ} {r : ParsedExpression}
-      (a : ExpressionsAgree text table symbols parts (depth + 1) start tape₁ tape₂ r)
-      (bound : ℕ) (h : length (stream text Tokens.naming s.at) ≤ bound) where
-    pub argument-stops : {fault : Fault} → r ≡ Stopped fault → CallAgrees text table symbols parts bound depth s place tape tape₂ (Stopped fault)
-    argument-stops e = stops-too (a bound (omega (arith, argument-shorter))) (ap expression_outcome e) refl
-        (λ q. at-argument table symbols parts bound ∙ rw q)
+  module _ {v : Variables} {tape₂ : List ℕ} (bound : ℕ) (h : length (stream text Tokens.naming s.at) ≤ bound) where
+    pub argument-stops : {fault : Fault} → ExpressionsAgree text v (depth + 1) start tape₁ tape₂ (Err fault)
+        → CallAgrees text v bound depth s place tape tape₂ (Err fault)
+    argument-stops a = stops-too (a bound (omega (arith, argument-shorter))) refl refl (λ q. at-argument v bound ∙ rw q)
 
-    pub call-closes : {tape₃ : List ℕ} {argument : ExpressionCounts} {q : ParsedExpression} → r ≡ Done argument → Closes text argument tape₂ tape₃ q
-        → CallAgrees text table symbols parts bound depth s place tape tape₃ q
-    call-closes {q = q} e x =
-        close-with table symbols parts bound (has-read _ _ refl (rw e at (a bound (omega (arith, argument-shorter))))) q x.gives
+    pub call-closes : {tape₃ : List ℕ} {argument : ExpressionCounts} {q : Result ExpressionCounts Fault}
+        → ExpressionsAgree text v (depth + 1) start tape₁ tape₂ (Ok argument) → Closes text argument tape₂ tape₃ q
+        → CallAgrees text v bound depth s place tape tape₃ q
+    call-closes {q = q} a x = close-with v bound (has-read _ _ refl (a bound (omega (arith, argument-shorter)))) q x.gives

@@ -2,6 +2,7 @@
 use Prim.Native.Nat.{ℕ, suc, ◌+◌, ◌-◌, ◌≤◌, ◌<◌}
 use mathlib.Core.Path.{◌≡◌, refl, sym, ◌∙◌, ap}
 use mathlib.Core.Bool.{true, false}
+use mathlib.Core.Logic.{inl, inr}
 use mathlib.Core.List.{List, [], ◌∷◌, ◌++◌, append_assoc, append-nil}
 use native.Mathlib.Omega.{arith}
 use lib.Dec.{T}
@@ -16,22 +17,20 @@ use Rattle.meaning.specs.Reading.{Parsed, stopped, parsed, follow, with_first, I
 use Rattle.meaning.proofs.Laws.Passing.{every-head, every-tail}
 use Rattle.read_tokens.specs.View.{placed_of, stream, Comes}
 use Rattle.read_tokens.specs.declared.Placed as Code
-use Rattle.answers.specs.declared.Answer.{Answer}
-use Rattle.read_bookkeeping.specs.declared.progress.Fault.{Fault}
+use Rattle.answers.specs.declared.Fault.{Fault}
+use Rattle.read_bookkeeping.specs.declared.variables.Variables.{Variables}
 use Rattle.read_functions.specs.declared.expressions.ExpressionCounts.{ExpressionCounts}
-use Rattle.read_functions.specs.declared.expressions.ParsedExpression.{ParsedExpression}
-use Rattle.read_functions.specs.declared.expressions.ParsedExpression.TheVariants.{Stopped, Done}
-use Rattle.read_functions.specs.declared.expressions.Joined.{Joined}
-use Rattle.read_functions.specs.declared.expressions.Joined.TheVariants.{Taken, Wrong, Refused, Other}
-use Rattle.answers.specs.Numbers.{answer_number}
+use Rattle.std.specs.Prelude.{Option, Some, None, Result, Ok, Err}
+use Rattle.answers.specs.Numbers.{refusal_number}
+use Rattle.answers.proofs.Refused.{not-accepted}
 use Rattle.read_bookkeeping.specs.Written.{is_quiet, Went}
 use Rattle.read_bookkeeping.specs.Tokened.{sign_is}
-use Rattle.read_bookkeeping.specs.Items.{symbol_names, token_item}
-use Rattle.read_functions.specs.Expressions.{expression_outcome, progress_at, Going, CallStands, ExpressionStands}
+use Rattle.read_bookkeeping.specs.Items.{symbol_names, token_item, WordRefused}
+use Rattle.read_functions.specs.Expressions.{progress_at, Going, CallStands, ExpressionStands}
 use Rattle.read_functions.specs.Expressions.{item_tape, TakenInExpression, TokenJoined}
-use Rattle.read_functions.specs.Expressions.{JoinsToken, fault_at, call_tape, CallRead}
+use Rattle.read_functions.specs.Expressions.{JoinsToken, WrongInExpression, call_tape, CallRead}
 use Rattle.read_bookkeeping.proofs.Items.{item-then}
-use Rattle.read_bookkeeping.proofs.Going.{check-wrong, stops-by, reads-by, ReadAt, has-read, went-none, went-from, went_then, stops-too}
+use Rattle.read_bookkeeping.proofs.Going.{check-wrong, stops, reads, ReadAt, has-read, went-none, went-from, went_then, stops-too}
 use Rattle.read_bookkeeping.proofs.Tokening.{sign-shown, sign-first, takes, ready-place, ready-past, went-before}
 use Rattle.read_bookkeeping.proofs.Refusing.{stopped-before, word-no-sign}
 use Rattle.read_functions.proofs.Calling.{call_at, CallAgrees, expression_at, ExpressionAgrees}
@@ -101,31 +100,31 @@ expression-step more left names depth so t ts n = rw n
 -- THE LOOP
 
 -- with a bound: the expression from the start is that from here with these items and calls first
-pub record Behind (text table : List ℕ) (symbols parts depth : ℕ) (start : ExpressionCounts) (tape₀ tape : List ℕ) (s : ExpressionCounts)
+pub record Behind (text : Bytes) (v : Variables) (depth : ℕ) (start : ExpressionCounts) (tape₀ tape : List ℕ) (s : ExpressionCounts)
     (bound : ℕ) : Type 0 where
   pub first : Expression → Expression
   pub left : ℕ
   pub words : List ℕ
-  pub same : Reading.parse_expression bound (symbol_names text table symbols) depth (progress_at text table parts start)
+  pub same : Reading.parse_expression bound (symbol_names text v) depth (progress_at text v start)
       (stream text Tokens.inside start.at)
       ≡ with_first first
-      (Reading.parse_expression left (symbol_names text table symbols) depth (progress_at text table parts s) (stream text Tokens.inside s.at))
+      (Reading.parse_expression left (symbol_names text v) depth (progress_at text v s) (stream text Tokens.inside s.at))
   pub enough : length (stream text Tokens.inside s.at) ≤ left
   pub shorter : length (stream text Tokens.inside s.at) ≤ length (stream text Tokens.inside start.at)
   pub tapes : (e : Expression) → expression_tape (first e) ≡ words ++ expression_tape e
   pub stand : (e : Expression) → ExpressionStands e → ExpressionStands (first e)
   pub went : Went text start.at start.words tape₀ s.at s.words tape words
 
-pub record Expressed (text table : List ℕ) (symbols parts depth : ℕ) (start : ExpressionCounts) (tape₀ tape : List ℕ) (s : ExpressionCounts) : Type 0
+pub record Expressed (text : Bytes) (v : Variables) (depth : ℕ) (start : ExpressionCounts) (tape₀ tape : List ℕ) (s : ExpressionCounts) : Type 0
   where
-    pub going : Going text table symbols parts s
+    pub going : Going text v s
     pub onward : start.at ≤ s.at
-    pub behind : (bound : ℕ) → length (stream text Tokens.inside start.at) ≤ bound → Behind text table symbols parts depth start tape₀ tape s bound
+    pub behind : (bound : ℕ) → length (stream text Tokens.inside start.at) ≤ bound → Behind text v depth start tape₀ tape s bound
 
-pub expression-starts : (text table : List ℕ) (symbols parts depth : ℕ) (start : ExpressionCounts) (tape : List ℕ) →
-    Going text table symbols parts start
-    → Expressed text table symbols parts depth start tape tape start
-expression-starts text table symbols parts depth start tape g =
+pub expression-starts : (text : Bytes) (v : Variables) (depth : ℕ) (start : ExpressionCounts) (tape : List ℕ) →
+    Going text v start
+    → Expressed text v depth start tape tape start
+expression-starts text v depth start tape g =
     record {
       going = g;
       onward = omega arith;
@@ -135,7 +134,7 @@ expression-starts text table symbols parts depth start tape g =
             first = λ e. e;
             left = bound;
             words = [];
-            same = first-none (expression_at text table symbols parts bound depth start);
+            same = first-none (expression_at text v bound depth start);
             enough = h;
             shorter = omega arith;
             tapes = λ e. refl;
@@ -145,9 +144,9 @@ expression-starts text table symbols parts depth start tape g =
     }
 
 -- the definition's step at the first token
-module _ {text table : List ℕ} {symbols parts depth : ℕ} {start : ExpressionCounts} {tape₀ tape : List ℕ} {s : ExpressionCounts} {bound : ℕ}
+module _ {text : Bytes} {v : Variables} {depth : ℕ} {start : ExpressionCounts} {tape₀ tape : List ℕ} {s : ExpressionCounts} {bound : ℕ}
     {t : Tokens.Placed} {ts : List Tokens.Placed}
-    (b : Behind text table symbols parts depth start tape₀ tape s bound)
+    (b : Behind text v depth start tape₀ tape s bound)
     (u : stream text Tokens.inside s.at ≡ t ∷ ts) where
   step-enough : suc (length ts) ≤ b.left
   step-enough = rw u at b.enough
@@ -155,33 +154,33 @@ module _ {text table : List ℕ} {symbols parts depth : ℕ} {start : Expression
   step-shorter : suc (length ts) ≤ length (stream text Tokens.inside start.at)
   step-shorter = rw u at b.shorter
 
-  at-step : expression_at text table symbols parts bound depth start
+  at-step : expression_at text v bound depth start
       ≡ with_first b.first
-      (Reading.parse_expression_from (Reading.parse_expression (b.left - 1) (symbol_names text table symbols)) (symbol_names text table symbols) depth
-      (progress_at text table parts s) t ts)
+      (Reading.parse_expression_from (Reading.parse_expression (b.left - 1) (symbol_names text v)) (symbol_names text v) depth
+      (progress_at text v s) t ts)
   at-step =
       b.same
       ∙ rw (
         u,
-        expression-step b.left (b.left - 1) (symbol_names text table symbols) depth (progress_at text table parts s) t ts
+        expression-step b.left (b.left - 1) (symbol_names text v) depth (progress_at text v s) t ts
             (omega (arith, step-enough)),
       )
 
   -- one item or call more
   behind_more : {next : ExpressionCounts} {tape' : List ℕ} (f : Expression → Expression) (added : List ℕ)
-      → expression_at text table symbols parts bound depth start
-      ≡ with_first b.first (with_first f (expression_at text table symbols parts (b.left - 1) depth next))
+      → expression_at text v bound depth start
+      ≡ with_first b.first (with_first f (expression_at text v (b.left - 1) depth next))
       → length (stream text Tokens.inside next.at) ≤ length ts
       → ((e : Expression) → expression_tape (f e) ≡ added ++ expression_tape e)
       → ((e : Expression) → ExpressionStands e → ExpressionStands (f e))
       → Went text s.at s.words tape next.at next.words tape' added
-      → Behind text table symbols parts depth start tape₀ tape' next bound
+      → Behind text v depth start tape₀ tape' next bound
   behind_more {next} f added same less tapes stand went =
       record {
         first = λ e. b.first (f e);
         left = b.left - 1;
         words = b.words ++ added;
-        same = same ∙ first-first b.first f (expression_at text table symbols parts (b.left - 1) depth next);
+        same = same ∙ first-first b.first f (expression_at text v (b.left - 1) depth next);
         enough = omega (arith, step-enough);
         shorter = omega (arith, step-shorter);
         tapes = λ e. b.tapes (f e) ∙ rw (tapes e) (sym (append_assoc b.words added (expression_tape e)));
@@ -190,31 +189,31 @@ module _ {text table : List ℕ} {symbols parts depth : ℕ} {start : Expression
       }
 
 -- a token was joined to the expression, or is no item
-pub record AtToken (text table : List ℕ) (symbols parts depth : ℕ) (start : ExpressionCounts) (tape₀ : List ℕ) (s : ExpressionCounts)
-    (t : Code.Placed) (tape' : List ℕ) (r : Joined) : Type 0 where
+pub record AtToken (text : Bytes) (v : Variables) (depth : ℕ) (start : ExpressionCounts) (tape₀ : List ℕ) (s : ExpressionCounts)
+    (t : Code.Placed) (tape' : List ℕ) (r : Result (Option ExpressionCounts) Fault) : Type 0 where
   pub tape : List ℕ
-  pub so : Expressed text table symbols parts depth start tape₀ tape s
+  pub so : Expressed text v depth start tape₀ tape s
   pub comes : Comes text Tokens.inside s.at t
-  pub joins : JoinsToken text table symbols parts s tape t tape' r
+  pub joins : JoinsToken text v s tape t tape' r
 
-module _ {text table : List ℕ} {symbols parts depth : ℕ} {start : ExpressionCounts} {tape₀ : List ℕ} {s : ExpressionCounts} {t : Code.Placed}
-    {tape' : List ℕ} {r : Joined}
-    (q : AtToken text table symbols parts depth start tape₀ s t tape' r) where
-  given : {r' : Joined} → r ≡ r' → TokenJoined text table symbols parts s q.tape t tape' r'
+module _ {text : Bytes} {v : Variables} {depth : ℕ} {start : ExpressionCounts} {tape₀ : List ℕ} {s : ExpressionCounts} {t : Code.Placed}
+    {tape' : List ℕ} {r : Result (Option ExpressionCounts) Fault}
+    (q : AtToken text v depth start tape₀ s t tape' r) where
+  given : {r' : Result (Option ExpressionCounts) Fault} → r ≡ r' → TokenJoined text v s q.tape t tape' r'
   given e = rw e at q.joins.gives
 
   -- AN ITEM
 
-  pub item-moves : {next : ExpressionCounts} → r ≡ Taken next → (s.at < next.at) × (next.at ≤ length text)
+  pub item-moves : {next : ExpressionCounts} → r ≡ Ok (Some next) → (s.at < next.at) × (next.at ≤ length text)
   item-moves e =
       let g = given e in
       (omega (arith, g.0.at, (item-then q.comes g.1).moves), g.0.going.ready.inside)
 
   item-behind : {next : ExpressionCounts} (bound : ℕ)
-      → TakenInExpression text table symbols parts s q.tape (token_item text t) t.past tape' next →
+      → TakenInExpression text v s q.tape (token_item text t) t.past tape' next →
       is_item (token_item text t) ≡ true
-      → Behind text table symbols parts depth start tape₀ q.tape s bound
-      → Behind text table symbols parts depth start tape₀ tape' next bound
+      → Behind text v depth start tape₀ q.tape s bound
+      → Behind text v depth start tape₀ tape' next bound
   item-behind bound g y b =
       let i = item-then q.comes y in
       let item = token_item text t in
@@ -222,7 +221,7 @@ module _ {text table : List ℕ} {symbols parts depth : ℕ} {start : Expression
       (rw g.at (omega arith))
       (tape-item item) (λ e h. stands-item item e g.quiet h) g.went
 
-  pub item-taken : {next : ExpressionCounts} → r ≡ Taken next → Expressed text table symbols parts depth start tape₀ tape' next
+  pub item-taken : {next : ExpressionCounts} → r ≡ Ok (Some next) → Expressed text v depth start tape₀ tape' next
   item-taken e =
       let g = given e in
       record {
@@ -231,38 +230,44 @@ module _ {text table : List ℕ} {symbols parts depth : ℕ} {start : Expression
         behind = λ bound h. item-behind bound g.0 g.1 (q.so.behind bound h);
       }
 
-  pub item-wrong : {answer : Answer} {bound : ℕ} → r ≡ Wrong answer → length (stream text Tokens.inside start.at) ≤ bound
-      → ExpressionAgrees text table symbols parts bound depth start tape₀ tape' (Stopped (fault_at answer t.place))
-  item-wrong {answer} {bound} e h =
-      let g = given e in
-      let b = q.so.behind bound h in
-      let i = item-then q.comes g.1 in
+  item-wrong : {fault : Fault} (bound : ℕ) → WrongInExpression text v s (token_item text t) t.place fault → is_item (token_item text t) ≡ true
+      → Behind text v depth start tape₀ q.tape s bound
+      → ExpressionAgrees text v bound depth start tape₀ tape' (Err fault)
+  item-wrong {fault} bound w y b =
+      let i = item-then q.comes y in
       let item = token_item text t in
       let rest =
-      Reading.parse_expression (b.left - 1) (symbol_names text table symbols) depth (Reading.past_item item (progress_at text table parts s))
+      Reading.parse_expression (b.left - 1) (symbol_names text v) depth (Reading.past_item item (progress_at text v s))
       (stream text Tokens.inside t.past) in
-      stops-by refl (stopped-before (at-step b i.unrolled
-      ∙ rw (g.1, g.0.fault, check-wrong (answer_number answer) (placed_of text t) (with_first (then_item item) rest) g.0.wrong)))
+      let wrong = not-accepted fault.refusal in
+      stops (stopped-before (at-step b i.unrolled
+      ∙ rw (y, w.number, w.place, check-wrong (refusal_number fault.refusal) (placed_of text t) (with_first (then_item item) rest) wrong)))
 
   -- A WORD
 
-  pub word-refused : {fault : Fault} {bound : ℕ} → r ≡ Refused fault → length (stream text Tokens.inside start.at) ≤ bound
-      → ExpressionAgrees text table symbols parts bound depth start tape₀ tape' (Stopped fault)
-  word-refused {bound = bound} e h =
-      let g = given e in
-      let b = q.so.behind bound h in
-      stops-by refl (rw (at-step b q.comes.unrolled, g.other, word-no-sign Tokens.less_than _ g.word, g.word, g.number, g.place))
+  word-refused : {fault : Fault} (bound : ℕ) → WordRefused text t fault → Behind text v depth start tape₀ q.tape s bound
+      → ExpressionAgrees text v bound depth start tape₀ tape' (Err fault)
+  word-refused bound g b =
+      stops (rw (at-step b q.comes.unrolled, g.other, word-no-sign Tokens.less_than _ g.word, g.word, g.number, g.place))
+
+  pub token-refused : {fault : Fault} {bound : ℕ} → r ≡ Err fault → length (stream text Tokens.inside start.at) ≤ bound
+      → ExpressionAgrees text v bound depth start tape₀ tape' (Err fault)
+  token-refused {fault} {bound} e h = by (given e)
+    where
+      by : TokenJoined text v s q.tape t tape' (Err fault) → ExpressionAgrees text v bound depth start tape₀ tape' (Err fault)
+      by (inl w) = item-wrong bound w.0 w.1 (q.so.behind bound h)
+      by (inr w) = word-refused bound w (q.so.behind bound h)
 
   -- THE END
 
-  pub expression-ends : {bound : ℕ} → r ≡ Other → sign_is Tokens.less_than t.token ≡ false → length (stream text Tokens.inside start.at) ≤ bound
-      → ExpressionAgrees text table symbols parts bound depth start tape₀ tape'
-      (Done (record { at = t.place; words = s.words; items = s.items; passed = s.passed }))
+  pub expression-ends : {bound : ℕ} → r ≡ Ok None → sign_is Tokens.less_than t.token ≡ false → length (stream text Tokens.inside start.at) ≤ bound
+      → ExpressionAgrees text v bound depth start tape₀ tape'
+      (Ok (record { at = t.place; words = s.words; items = s.items; passed = s.passed }))
   expression-ends {bound} e n h =
       let g = given e in
       let b = q.so.behind bound h in
       let u = q.comes.unrolled in
-      reads-by refl (record { expression = b.first end; progress = progress_at text table parts s }) (stream text Tokens.inside s.at)
+      reads (record { expression = b.first end; progress = progress_at text v s }) (stream text Tokens.inside s.at)
       (rw (at-step b u, u, g.0.other, sign-shown text t Tokens.less_than n, g.0.wordless))
       (record {
         tokens = sym q.comes.again;
@@ -276,20 +281,20 @@ module _ {text table : List ℕ} {symbols parts depth : ℕ} {start : Expression
 -- A CALL
 
 -- the token is the `<` of a call
-pub record AtCall {text table : List ℕ} {symbols parts depth : ℕ} {start : ExpressionCounts} {tape₀ : List ℕ} {s : ExpressionCounts} {t : Code.Placed}
-    {tape' : List ℕ} {r : Joined}
-    (k : AtToken text table symbols parts depth start tape₀ s t tape' r) : Type 0 where
-  pub other : r ≡ Other
+pub record AtCall {text : Bytes} {v : Variables} {depth : ℕ} {start : ExpressionCounts} {tape₀ : List ℕ} {s : ExpressionCounts} {t : Code.Placed}
+    {tape' : List ℕ} {r : Result (Option ExpressionCounts) Fault}
+    (k : AtToken text v depth start tape₀ s t tape' r) : Type 0 where
+  pub other : r ≡ Ok None
   pub angle : sign_is Tokens.less_than t.token ≡ true
 
-module _ {text table : List ℕ} {symbols parts depth : ℕ} {start : ExpressionCounts} {tape₀ : List ℕ} {s : ExpressionCounts} {t : Code.Placed}
-    {tape' : List ℕ} {r : Joined}
-    {k : AtToken text table symbols parts depth start tape₀ s t tape' r} (q : AtCall k) where
+module _ {text : Bytes} {v : Variables} {depth : ℕ} {start : ExpressionCounts} {tape₀ : List ℕ} {s : ExpressionCounts} {t : Code.Placed}
+    {tape' : List ℕ} {r : Result (Option ExpressionCounts) Fault}
+    {k : AtToken text v depth start tape₀ s t tape' r} (q : AtCall k) where
   abbrev opened : ExpressionCounts
   opened = record { at = t.past; words = s.words; items = s.items; passed = s.passed }
 
   abbrev called_at : ℕ → Parsed Reading.Called
-  called_at left = call_at text table symbols parts left depth opened t.place
+  called_at left = call_at text v left depth opened t.place
 
   unrolled : stream text Tokens.inside s.at ≡ standing (Tokens.sign Tokens.less_than) t.place t.past ∷ stream text Tokens.naming t.past
   unrolled = sign-first text Tokens.inside s.at k.comes q.angle
@@ -301,27 +306,27 @@ module _ {text table : List ℕ} {symbols parts depth : ℕ} {start : Expression
   pub call-onward : (start.at < t.past) × (t.past ≤ length text)
   call-onward = (omega (arith, k.so.onward, passed), k.comes.inside)
 
-  pub call-ready : Going text table symbols parts opened × (s.words < t.past)
+  pub call-ready : Going text v opened × (s.words < t.past)
   call-ready =
       let g = k.so.going in
       (going_on g (ready-past g.ready k.comes), omega (arith, g.ready.charged, passed))
 
   -- the definition reads a call
-  at_call : {bound : ℕ} (b : Behind text table symbols parts depth start tape₀ k.tape s bound)
-      → expression_at text table symbols parts bound depth start
+  at_call : {bound : ℕ} (b : Behind text v depth start tape₀ k.tape s bound)
+      → expression_at text v bound depth start
       ≡ with_first b.first
       (follow (called_at (b.left - 1)) λ d rest.
       with_first (then_call d.place d.name d.argument)
-      (Reading.parse_expression (b.left - 1) (symbol_names text table symbols) depth d.progress rest))
+      (Reading.parse_expression (b.left - 1) (symbol_names text v) depth d.progress rest))
   at_call b = at-step b unrolled
 
-  left-enough : {bound : ℕ} (b : Behind text table symbols parts depth start tape₀ k.tape s bound) →
+  left-enough : {bound : ℕ} (b : Behind text v depth start tape₀ k.tape s bound) →
       length (stream text Tokens.naming t.past) ≤ b.left - 1
   left-enough b = omega (arith, step-enough b unrolled)
 
-  call-behind : {tape'' : List ℕ} {next : ExpressionCounts} {bound : ℕ} (b : Behind text table symbols parts depth start tape₀ k.tape s bound)
-      → ReadAt (CallRead text table symbols parts opened tape' tape'') (called_at (b.left - 1)) next
-      → Behind text table symbols parts depth start tape₀ tape'' next bound
+  call-behind : {tape'' : List ℕ} {next : ExpressionCounts} {bound : ℕ} (b : Behind text v depth start tape₀ k.tape s bound)
+      → ReadAt (CallRead text v opened tape' tape'') (called_at (b.left - 1)) next
+      → Behind text v depth start tape₀ tape'' next bound
   call-behind {tape''} {next} b read =
       let d = read.value in
       let h = read.how in
@@ -333,27 +338,29 @@ module _ {text table : List ℕ} {symbols parts depth : ℕ} {start : Expression
       (went-from (omega (arith, c.onward, c.forward)) (rw (given k q.other).1 at h.went))
 
   -- what the call's reader came to, with every bound that is large enough
-  module _ {tape'' : List ℕ} {p : ParsedExpression}
-      (a : (left : ℕ) → length (stream text Tokens.naming t.past) ≤ left →
-      CallAgrees text table symbols parts left depth opened t.place tape' tape'' p) where
-    pub call-stopped : {fault : Fault} {bound : ℕ} → p ≡ Stopped fault → length (stream text Tokens.inside start.at) ≤ bound
-        → ExpressionAgrees text table symbols parts bound depth start tape₀ tape'' (Stopped fault)
-    call-stopped {bound = bound} e h =
+  abbrev pub Calls : List ℕ → Result ExpressionCounts Fault → Type 0
+  Calls tape'' p =
+      (left : ℕ) → length (stream text Tokens.naming t.past) ≤ left → CallAgrees text v left depth opened t.place tape' tape'' p
+
+  module _ {tape'' : List ℕ} where
+    pub call-stopped : {fault : Fault} {bound : ℕ} → Calls tape'' (Err fault) → length (stream text Tokens.inside start.at) ≤ bound
+        → ExpressionAgrees text v bound depth start tape₀ tape'' (Err fault)
+    call-stopped {bound = bound} a h =
         let b = k.so.behind bound h in
-        stops-too (a (b.left - 1) (left-enough b)) (ap expression_outcome e) refl (λ g. stopped-before (at_call b ∙ rw g))
+        stops-too (a (b.left - 1) (left-enough b)) refl refl (λ g. stopped-before (at_call b ∙ rw g))
 
-    module _ {next : ExpressionCounts} (e : p ≡ Done next) where
+    module _ {next : ExpressionCounts} (a : Calls tape'' (Ok next)) where
       called : (left : ℕ) → length (stream text Tokens.naming t.past) ≤ left →
-          ReadAt (CallRead text table symbols parts opened tape' tape'') (called_at left) next
-      called left h = has-read _ next refl (rw e at (a left h))
+          ReadAt (CallRead text v opened tape' tape'') (called_at left) next
+      called left h = has-read _ next refl (a left h)
 
-      shown : ReadAt (CallRead text table symbols parts opened tape' tape'') (called_at (length (stream text Tokens.naming t.past))) next
+      shown : ReadAt (CallRead text v opened tape' tape'') (called_at (length (stream text Tokens.naming t.past))) next
       shown = called _ (omega arith)
 
       pub call-moves : (s.at < next.at) × (next.at ≤ length text)
       call-moves = (omega (arith, shown.how.went.onward, passed), shown.how.going.ready.inside)
 
-      pub call-read : Expressed text table symbols parts depth start tape₀ tape'' next
+      pub call-read : Expressed text v depth start tape₀ tape'' next
       call-read =
           record {
             going = shown.how.going;

@@ -28,44 +28,40 @@ use Rattle.read_tokens.specs.declared.Span.{Span}
 use Rattle.read_tokens.specs.declared.Token.{Token}
 use Rattle.read_tokens.specs.declared.Token.TheVariants.{Name as NameToken}
 use Rattle.read_tokens.specs.declared.Placed as Code
-use Rattle.answers.specs.declared.Answer.{Answer}
-use Rattle.answers.specs.declared.Answer.TheVariants.{OverLimit, WrongName}
-use Rattle.read_bookkeeping.specs.declared.progress.Fault.{Fault}
+use Rattle.std.specs.Prelude.{Option, Some, None, Result, Ok, Err}
+use Rattle.answers.specs.declared.Refusal.TheVariants.{OverLimit, WrongName}
+use Rattle.answers.specs.declared.Fault.{Fault}
+use Rattle.answers.proofs.Refused.{not-accepted}
 use Rattle.read_functions.specs.declared.sentences.SentencesEnd.{SentencesEnd}
-use Rattle.read_functions.specs.declared.sentences.ParsedSentences.{ParsedSentences}
-use Rattle.read_functions.specs.declared.sentences.ParsedSentences.TheVariants.{Stopped, Done}
-use Rattle.read_functions.specs.declared.functions.ParsedTable.{ParsedTable}
-use Rattle.read_functions.specs.declared.functions.ParsedTable.TheVariants.{Stopped as StoppedTable, Done as DoneTable}
 use Rattle.tape_words.specs.Words.{head_names}
 use Rattle.tape_words.specs.Finding.{is_known_among}
 use Rattle.read_bookkeeping.specs.Tables.{Inside}
-use Rattle.answers.specs.Numbers.{answer_number}
-use Rattle.read_bookkeeping.specs.Answered.{AgreesBy}
+use Rattle.answers.specs.Numbers.{refusal_number}
+use Rattle.read_bookkeeping.specs.Answered.{Agrees}
 use Rattle.read_bookkeeping.specs.Written.{WroteOnTape, is_quiet, Ready, Went}
 use Rattle.read_bookkeeping.specs.Tokened.{sign_is, Taken}
 use Rattle.read_functions.specs.declared.functions.Tally.{Tally}
-use Rattle.read_functions.specs.declared.functions.Stage.{Stage}
-use Rattle.read_functions.specs.declared.functions.Stage.TheVariants.{Onward, Over}
+use Rattle.read_functions.specs.declared.functions.Reached.{Reached}
 use Rattle.read_functions.specs.Expressions.{fault_at}
-use Rattle.read_functions.specs.Sentences.{SentencesRead, sentences_outcome}
+use Rattle.read_functions.specs.Sentences.{SentencesRead}
 use Rattle.read_functions.specs.Functions.{heads_from, Heads, declared_fault_in}
 use Rattle.read_functions.specs.Functions.{FunctionStands, from_brace, declared, Declarable, BodyRead, Opening, name_fault, DeclaredRead, SpareTo}
-use Rattle.read_functions.specs.Functions.{is_end_token, functions_of, FunctionsRead, Functioned, StageIs, Underway}
-use Rattle.read_functions.specs.Functions.{first_stage, table_outcome, Declares}
+use Rattle.read_functions.specs.Functions.{is_end_token, functions_of, FunctionsRead, Functioned, TallyIs, Underway}
+use Rattle.read_functions.specs.Functions.{new_tally, FunctionsAgree, DeclaresFrom, Declares}
 use Rattle.read_bookkeeping.proofs.Lengths.{part_length, within}
 use Rattle.read_bookkeeping.proofs.Words.{written_over, written-before, OnTape, on-tape}
-use Rattle.read_bookkeeping.proofs.Going.{check-wrong, stops-by, reads-by, ReadAt, has-read, pass-follow, follow-alone, makes, went-none, went-from}
+use Rattle.read_bookkeeping.proofs.Going.{check-wrong, stops, reads, ReadAt, has-read, pass-follow, follow-alone, makes, went-none, went-from}
 use Rattle.read_bookkeeping.proofs.Going.{went_on, went_then, went-length, ready-after, name-went, stops-too, name-quiet}
-use Rattle.read_bookkeeping.proofs.Tokening.{NameFirst, sign-shown, passes_on, name-first, names-not, refused-by, ready-place, FaultOf, NoName}
+use Rattle.read_bookkeeping.proofs.Tokening.{NameFirst, sign-shown, passes_on, name-first, names-not, refused, ready-place, FaultOf, NoName}
 use Rattle.read_functions.proofs.Sentencing.{each_none, each_more}
 use Rattle.read_functions.proofs.Noting.{begins, heads-more, names-noted, noted-kept}
 use Rattle.read_tokens.proofs.Variants.{by_kind}
 
 -- A FUNCTION AFTER ITS NAME
 
-abbrev BodyAgrees : Bytes → ℕ → ℕ → Span → List ℕ → List ℕ → ParsedSentences → Type 0
+abbrev BodyAgrees : Bytes → ℕ → ℕ → Span → List ℕ → List ℕ → Result SentencesEnd Fault → Type 0
 BodyAgrees text limit words n tape tape' r =
-    AgreesBy sentences_outcome (BodyRead text limit n.from words (View.span_text text n) tape tape')
+    Agrees (BodyRead text limit n.from words (View.span_text text n) tape tape')
     (from_brace limit (stream text Tokens.outside n.past)) r
 
 -- the `{` was passed after a name
@@ -87,8 +83,8 @@ module _ {text : Bytes} {words : ℕ} {n : Span} {at : ℕ} (b : AfterBrace text
     pub body-ready : Ready text at to
     body-ready = ready-after b.name.short named-went
 
-    pub body_reads : {limit : ℕ} {tape' : List ℕ} {r : ParsedSentences}
-        → AgreesBy sentences_outcome (SentencesRead text limit at to tape₁ tape') (Reading.parse_sentences limit (stream text Tokens.inside at)) r
+    pub body_reads : {limit : ℕ} {tape' : List ℕ} {r : Result SentencesEnd Fault}
+        → Agrees (SentencesRead text limit at to tape₁ tape') (Reading.parse_sentences limit (stream text Tokens.inside at)) r
         → BodyAgrees text limit words n tape tape' r
     body_reads a =
         makes (λ ss. ss) _
@@ -103,21 +99,21 @@ module _ {text : Bytes} {words : ℕ} {n : Span} {at : ℕ} (b : AfterBrace text
 
 -- A FUNCTION
 
-abbrev FunctionAgrees : Bytes → List ℕ → List ℕ → ℕ → ℕ → ℕ → Code.Placed → List ℕ → List ℕ → ParsedSentences → Type 0
+abbrev FunctionAgrees : Bytes → List ℕ → List ℕ → ℕ → ℕ → ℕ → Code.Placed → List ℕ → List ℕ → Result SentencesEnd Fault → Type 0
 FunctionAgrees text tape heads functions limit words t tape' heads' r =
-    AgreesBy sentences_outcome (DeclaredRead text limit t.place words functions tape tape' heads heads')
+    Agrees (DeclaredRead text limit t.place words functions tape tape' heads heads')
     (Reading.parse_function (name_fault functions (head_names tape (take functions heads))) limit (stream text Tokens.outside t.place)) r
 
 module _ {text tape heads : List ℕ} {functions words : ℕ} {t : Code.Placed} {limit : ℕ} (o : Opening text tape heads functions words t) where
   pub function-nameless : {tape' heads' : List ℕ} {fault : Fault} → NoName t.token
       → FaultOf t fault
-      → FunctionAgrees text tape heads functions limit words t tape' heads' (Stopped fault)
-  function-nameless n f = refused-by refl o.comes (names-not o.comes _ _ n) f
+      → FunctionAgrees text tape heads functions limit words t tape' heads' (Err fault)
+  function-nameless n f = refused o.comes (names-not o.comes _ _ n) f
 
   module _ {n : Span} (e : t.token ≡ NameToken n) where
     pub function-many : {tape' heads' : List ℕ} → max_functions ≤ functions
-        → FunctionAgrees text tape heads functions limit words t tape' heads' (Stopped (fault_at OverLimit t.place))
-    function-many h = stops-by refl (rw ((name-first o.comes e).unrolled, le-ltb functions max_functions h))
+        → FunctionAgrees text tape heads functions limit words t tape' heads' (Err (fault_at OverLimit t.place))
+    function-many h = stops (rw ((name-first o.comes e).unrolled, le-ltb functions max_functions h))
 
 -- a declared name has the fault that it has where it is called, or else may not be known
 declared-fault : (names : List Name) (n : Name)
@@ -155,25 +151,26 @@ module _ {text tape heads : List ℕ} {functions words : ℕ} {t : Code.Placed} 
   abbrev fault_here : ℕ
   fault_here = declared_fault_in (head_names tape (take functions heads)) (View.span_text text n)
 
-  module _ {limit : ℕ} {tape' heads' : List ℕ} {answer : Answer} where
-    function-misnamed : answer_number answer ≡ fault_here → eqb (answer_number answer) 0 ≡ false
-        → FunctionAgrees text tape heads functions limit words t tape' heads' (Stopped (fault_at answer t.place))
-    function-misnamed f w =
-        stops-by refl (rw (named_here.unrolled, lt-ltb functions max_functions m.few, ← f) (check-wrong (answer_number answer) _ _ w))
+  module _ {limit : ℕ} {tape' heads' : List ℕ} {fault : Fault} where
+    function-misnamed : refusal_number fault.refusal ≡ fault_here → fault.place ≡ t.place
+        → FunctionAgrees text tape heads functions limit words t tape' heads' (Err fault)
+    function-misnamed f p =
+        stops (rw (named_here.unrolled, lt-ltb functions max_functions m.few, ← f, p)
+        (check-wrong (refusal_number fault.refusal) _ _ (not-accepted fault.refusal)))
 
-    pub function-uncallable : answer_number answer ≡ Reading.called_fault (View.span_text text n) → eqb (answer_number answer) 0 ≡ false
-        → FunctionAgrees text tape heads functions limit words t tape' heads' (Stopped (fault_at answer t.place))
-    function-uncallable f w = function-misnamed (sym (declared-fault _ (View.span_text text n) ∙ rw (← f, w))) w
+    pub function-uncallable : refusal_number fault.refusal ≡ Reading.called_fault (View.span_text text n) → fault.place ≡ t.place
+        → FunctionAgrees text tape heads functions limit words t tape' heads' (Err fault)
+    function-uncallable f p =
+        function-misnamed (sym (declared-fault _ (View.span_text text n) ∙ rw (← f, not-accepted fault.refusal))) p
 
 -- its name could be called, and is copied to the tape's end
-pub record NameCopied (text tape tape₁ heads : List ℕ) (functions words : ℕ) (t : Code.Placed) (n : Span) : Type 0 where
+pub record NameCopied (text tape tape₁ heads : List ℕ) (functions words : ℕ) (t : Code.Placed) (n : Span) (to : ℕ) : Type 0 where
   pub comes : NameComes text tape heads functions words t n
   pub callable : Reading.called_fault (View.span_text text n) ≡ 0
-  pub to : ℕ
   pub wrote : WroteOnTape tape words (View.span_text text n) to tape₁
 
-module _ {text tape tape₁ heads : List ℕ} {functions words : ℕ} {t : Code.Placed} {n : Span}
-    (m : NameCopied text tape tape₁ heads functions words t n) where
+module _ {text tape tape₁ heads : List ℕ} {functions words : ℕ} {t : Code.Placed} {n : Span} {to : ℕ}
+    (m : NameCopied text tape tape₁ heads functions words t n to) where
   abbrev here : NameFirst text Tokens.outside t.place t n
   here = named_here m.comes
 
@@ -186,8 +183,8 @@ module _ {text tape tape₁ heads : List ℕ} {functions words : ℕ} {t : Code.
   standing : OnTape text n tape₁ words
   standing = on-tape here.inside copy-fits m.wrote
 
-  pub name-standing : (functions ≤ length heads) × (words + (n.past - n.from) ≤ length tape₁)
-  name-standing = (omega (arith, opens.few, opens.long), standing.inside)
+  pub name-standing : (words ≤ to) × (to ≤ length tape₁)
+  name-standing = (omega (arith, m.wrote.reached), omega (arith, m.wrote.reached, part_length text n here.inside, standing.inside))
 
   names-kept : head_names tape₁ (take functions heads) ≡ head_names tape (take functions heads)
   names-kept =
@@ -220,16 +217,19 @@ module _ {text tape tape₁ heads : List ℕ} {functions words : ℕ} {t : Code.
       }
 
   -- whether it is known is asked of the tape
-  module _ {known : Bool} (e : known ≡ is_known_among (head_names tape₁ (take functions heads)) (take (n.past - n.from) (drop words tape₁)))
+  name-size : to - words ≡ n.past - n.from
+  name-size = omega (arith, m.wrote.reached, part_length text n here.inside)
+
+  module _ {known : Bool} (e : known ≡ is_known_among (head_names tape₁ (take functions heads)) (take (to - words) (drop words tape₁)))
     where
       fault-left : fault_here m.comes ≡ pick known wrong_name 0
-      fault-left = declared-fault _ (View.span_text text n) ∙ rw (m.callable, e, names-kept, standing.same)
+      fault-left = declared-fault _ (View.span_text text n) ∙ rw (m.callable, e, name-size, names-kept, standing.same)
 
       pub function-known : {limit : ℕ} {tape' heads' : List ℕ} → known ≡ true
-          → FunctionAgrees text tape heads functions limit words t tape' heads' (Stopped (fault_at WrongName t.place))
+          → FunctionAgrees text tape heads functions limit words t tape' heads' (Err (fault_at WrongName t.place))
       function-known k = function-misnamed m.comes (sym (fault-left ∙ rw k)) refl
 
-      pub function-reads : {tape' heads' : List ℕ} {limit : ℕ} {r : ParsedSentences} → known ≡ false
+      pub function-reads : {tape' heads' : List ℕ} {limit : ℕ} {r : Result SentencesEnd Fault} → known ≡ false
           → heads' ≡ set heads functions words
           → BodyAgrees text limit words n tape₁ tape' r
           → FunctionAgrees text tape heads functions limit words t tape' heads' r
@@ -327,12 +327,8 @@ tape-none = refl
 
 -- ONE AFTER ANOTHER
 
-abbrev FunctionsAgree : Bytes → List ℕ → List ℕ → List ℕ → ParsedTable → Type 0
-FunctionsAgree text start tape heads r =
-    AgreesBy table_outcome (FunctionsRead text start tape heads) (functions_of text) r
-
 pub functions-start : (text start heads : List ℕ) → length text ≤ max_table → length text ≤ length start → length heads ≡ max_functions
-    → StageIs text start start heads 0 first_stage
+    → TallyIs text start start heads 0 new_tally
 unfolding heads_from
 functions-start text start heads h room l =
     record {
@@ -370,9 +366,9 @@ module _ {text start tape heads : List ℕ} {at words count left : ℕ} {t : Cod
       (stream text (Tokens.mode_after Tokens.outside (token_of text t.token t.place t.past)) t.past)
 
   functions-done : is_end_token t.token ≡ true → FunctionsAgree text start tape heads
-      (DoneTable (record { words = words; functions = count; left = left }))
+      (Ok (record { words = words; functions = count; left = left }))
   functions-done e =
-      reads-by refl k.before following
+      reads k.before following
       (k.same ∙ rw c.unrolled (functions-end left k.before (placed_of text t) following (max_functions - count)
       (end_same text t.place t.past t.token ∙ e)))
       (record { at = at; went = k.went; noted = k.noted; few = omega (arith, k.few, k.long); count = k.counted; stand = k.stand })
@@ -414,12 +410,11 @@ module _ {text start tape heads : List ℕ} {at words count left : ℕ} {k : Fun
   not_end : Reading.is_text_end (token_of text t.token t.place t.past) ≡ false
   not_end = end_same text t.place t.past t.token ∙ n.is
 
-  function-stops : {tape' heads' : List ℕ} {fault : Fault} {r : ParsedSentences} → FunctionAgrees text tape heads count left words t tape' heads' r →
-      r ≡ Stopped fault
-      → FunctionsAgree text start tape' heads' (StoppedTable fault)
-  function-stops a q =
+  function-stops : {tape' heads' : List ℕ} {fault : Fault} → FunctionAgrees text tape heads count left words t tape' heads' (Err fault)
+      → FunctionsAgree text start tape' heads' (Err fault)
+  function-stops a =
       let c = n.comes in
-      stops-too a (ap sentences_outcome q) refl λ h.
+      stops-too a refl refl λ h.
       k.same
       ∙ rw c.unrolled
       (functions-stop left k.before (placed_of text t) (following k c) (max_functions - count) count (omega (arith, k.few)) not_end
@@ -439,11 +434,10 @@ pub record OneMore (text start tape₁ heads₁ : List ℕ) (count : ℕ) (p : S
 
 one_more_lem : {text start tape heads tape₁ heads₁ : List ℕ} {at words count left : ℕ} {k : Functioned text start tape heads at words count left}
     {t : Code.Placed}
-    {p : SentencesEnd} {r : ParsedSentences} → Another k t
-    → FunctionAgrees text tape heads count left words t tape₁ heads₁ r
-    → r ≡ Done p
+    {p : SentencesEnd} → Another k t
+    → FunctionAgrees text tape heads count left words t tape₁ heads₁ (Ok p)
     → OneMore text start tape₁ heads₁ count p
-one_more_lem n a q =
+one_more_lem n a =
     record {
       tape = _;
       heads = _;
@@ -453,7 +447,7 @@ one_more_lem n a q =
       token = _;
       others = _;
       next = n;
-      read = has-read _ _ refl (rw q at a);
+      read = has-read _ _ refl a;
     }
 
 module _ {text start tape₁ heads₁ : List ℕ} {count : ℕ} {p : SentencesEnd} (o : OneMore text start tape₁ heads₁ count p) where
@@ -502,67 +496,47 @@ module _ {text start tape₁ heads₁ : List ℕ} {count : ℕ} {p : SentencesEn
         room = rw (went-length o.read.how.read.went) o.others.room;
       }
 
--- STAGES
-
--- what is over stays so
-pub stage-over : {text tape heads : List ℕ} {at : ℕ} {stage : Stage} {p : ParsedTable} → stage ≡ Over p →
-    Declares text tape heads at stage tape heads at stage
-stage-over e = record { keeps = λ start s. s; falls = λ o. absurd (false≢true (rw e at o)) }
-
-pub place_inside : {text tape heads : List ℕ} {at : ℕ} {stage : Stage} {n : Tally} → Underway text tape heads at stage → stage ≡ Onward n →
-    at ≤ length text
-place_inside u e = (rw e at u.is).went.inside
+-- DECLARATIONS
 
 -- more may come, and a token does
-pub record StageAt (text tape heads : List ℕ) (at : ℕ) (stage : Stage) (n : Tally) (t : Code.Placed) : Type 0 where
-  pub underway : Underway text tape heads at stage
-  pub onward : stage ≡ Onward n
+pub record TallyAt (text tape heads : List ℕ) (at : ℕ) (n : Tally) (t : Code.Placed) : Type 0 where
+  pub underway : Underway text tape heads at n
   pub comes : Comes text Tokens.outside at t
 
-module _ {text tape heads : List ℕ} {at : ℕ} {stage : Stage} {n : Tally} {t : Code.Placed} (k : StageAt text tape heads at stage n t) where
-  functioned : {start : List ℕ} → StageIs text start tape heads at stage → Functioned text start tape heads at n.words n.functions n.left
-  functioned s = rw k.onward at s
+pub place_inside : {text tape heads : List ℕ} {at : ℕ} {n : Tally} → Underway text tape heads at n → at ≤ length text
+place_inside u = u.is.went.inside
 
+module _ {text tape heads : List ℕ} {at : ℕ} {n : Tally} {t : Code.Placed} (k : TallyAt text tape heads at n t) where
   abbrev so_far : Functioned text k.underway.start tape heads at n.words n.functions n.left
-  so_far = functioned k.underway.is
+  so_far = k.underway.is
 
-  abbrev Changed : List ℕ → List ℕ → ℕ → Stage → Type 0
-  Changed tape' heads' at' stage' = Declares text tape heads at stage tape' heads' at' stage'
-
-  -- the reading is over
-  ends_with : {tape' heads' : List ℕ} {p : ParsedTable}
-      → ((start : List ℕ) → Functioned text start tape heads at n.words n.functions n.left → FunctionsAgree text start tape' heads' p)
-      → Changed tape' heads' at (Over p)
-  ends_with a =
-      record { keeps = λ start s. a start (functioned s); falls = λ o. rw k.onward (omega (arith, so_far.few)) }
-
-  pub stage-ends : is_end_token t.token ≡ true → Changed tape heads at (Over (DoneTable n))
-  stage-ends e = ends_with (λ start f. functions-done f k.comes e)
+  pub text-ends : is_end_token t.token ≡ true → Declares text tape heads at n tape heads (Ok None)
+  text-ends e = record { keeps = λ start f. functions-done f k.comes e; counts = tt }
 
   module _ (e : is_end_token t.token ≡ false) where
     another : {start : List ℕ} (f : Functioned text start tape heads at n.words n.functions n.left) → Another f t
     another f = record { comes = k.comes; is = e }
 
-    pub stage-opening : Opening text tape heads n.functions n.words t
-    stage-opening = opening (another so_far)
+    pub next-opening : Opening text tape heads n.functions n.words t
+    next-opening = opening (another so_far)
 
-    module _ {tape' heads' : List ℕ} {r : ParsedSentences} (a : FunctionAgrees text tape heads n.functions n.left n.words t tape' heads' r)
-      where
-        pub stage-stops : {fault : Fault} → r ≡ Stopped fault → Changed tape' heads' at (Over (StoppedTable fault))
-        stage-stops q = ends_with (λ start f. function-stops (another f) a q)
+    module _ {tape' heads' : List ℕ} where
+      pub next-stops : {fault : Fault} → FunctionAgrees text tape heads n.functions n.left n.words t tape' heads' (Err fault)
+          → Declares text tape heads at n tape' heads' (Err fault)
+      next-stops a = record { keeps = λ start f. function-stops (another f) a; counts = tt }
 
-        module _ {p : SentencesEnd} (q : r ≡ Done p) where
-          more : {start : List ℕ} → Functioned text start tape heads at n.words n.functions n.left →
-              OneMore text start tape' heads' n.functions p
-          more f = one_more_lem (another f) a q
+      module _ {p : SentencesEnd} (a : FunctionAgrees text tape heads n.functions n.left n.words t tape' heads' (Ok p)) where
+        more : {start : List ℕ} → Functioned text start tape heads at n.words n.functions n.left →
+            OneMore text start tape' heads' n.functions p
+        more f = one_more_lem (another f) a
 
-          pub stage-inside : p.at ≤ length text
-          stage-inside = (more so_far).read.how.read.went.inside
+        pub next-inside : p.at ≤ length text
+        next-inside = (more so_far).read.how.read.went.inside
 
-          pub stage-few : n.functions < max_functions
-          stage-few = room-before (more so_far)
+        pub next-few : n.functions < max_functions
+        next-few = room-before (more so_far)
 
-          pub stage-goes : {at' : ℕ} → SpareTo text p.at at'
-              → Changed tape' heads' at' (Onward (record { words = p.words; functions = n.functions + 1; left = p.left }))
-          stage-goes s =
-              record { keeps = λ start f. function-goes (more (functioned f)) s; falls = λ o. rw k.onward (omega (arith, stage-few)) }
+        pub next-goes : {at' : ℕ} → SpareTo text p.at at'
+            → Declares text tape heads at n tape' heads'
+            (Ok (Some (record { tally = record { words = p.words; functions = n.functions + 1; left = p.left }; at = at' })))
+        next-goes s = record { keeps = λ start f. function-goes (more f) s; counts = refl }

@@ -19,28 +19,27 @@ use Rattle.read_tokens.specs.View.{stream, Comes}
 use Rattle.read_tokens.specs.declared.Span.{Span}
 use Rattle.read_tokens.specs.declared.Token.TheVariants.{Name as NameToken}
 use Rattle.read_tokens.specs.declared.Placed as Code
-use Rattle.answers.specs.declared.Answer.{Answer}
-use Rattle.answers.specs.declared.Answer.TheVariants.{OverLimit}
-use Rattle.read_bookkeeping.specs.declared.progress.Fault.{Fault}
+use Rattle.answers.specs.declared.Fault.{Fault}
 use Rattle.read_functions.specs.declared.expressions.ExpressionCounts.{ExpressionCounts}
-use Rattle.read_functions.specs.declared.expressions.ParsedExpression.{ParsedExpression}
-use Rattle.read_functions.specs.declared.expressions.ParsedExpression.TheVariants.{Stopped, Done}
+use Rattle.std.specs.Prelude.{Result, Ok, Err}
 use Rattle.read_bookkeeping.specs.Tables.{Inside}
-use Rattle.answers.specs.Numbers.{answer_number}
-use Rattle.read_bookkeeping.specs.Answered.{AgreesBy}
+use Rattle.answers.specs.declared.Refusal.TheVariants.{OverLimit}
+use Rattle.answers.specs.Numbers.{refusal_number}
+use Rattle.answers.proofs.Refused.{not-accepted}
+use Rattle.read_bookkeeping.specs.Answered.{Agrees}
 use Rattle.read_bookkeeping.specs.Written.{WroteOnTape, is_quiet, Ready}
-use Rattle.read_functions.specs.Expressions.{expression_outcome, CallStands, fault_at, CalledName, call_opening, OpeningRead}
+use Rattle.read_functions.specs.Expressions.{CallStands, CalledName, call_opening, OpeningRead}
 use Rattle.read_bookkeeping.proofs.Choosing.{both_false}
 use Rattle.read_bookkeeping.proofs.Lengths.{part_length, within}
-use Rattle.read_bookkeeping.proofs.Going.{check-wrong, stops-by, reads-by, name-went}
-use Rattle.read_bookkeeping.proofs.Tokening.{NameFirst, name-first, names-not, refused-by, FaultOf, NoName}
+use Rattle.read_bookkeeping.proofs.Going.{check-wrong, stops, reads, name-went}
+use Rattle.read_bookkeeping.proofs.Tokening.{NameFirst, name-first, names-not, refused, FaultOf, NoName}
 
 -- what the definition reads of a call after its `<`, up to its argument
 abbrev pub opening_at : Bytes → ℕ → ExpressionCounts → ℕ → Parsed CalledName
 opening_at text depth s place = call_opening depth s.items (standing (Tokens.sign Tokens.less_than) place s.at) (stream text Tokens.naming s.at)
 
-abbrev pub OpeningAgrees : Bytes → ℕ → ExpressionCounts → ℕ → List ℕ → List ℕ → ParsedExpression → Type 0
-OpeningAgrees text depth s place tape tape' r = AgreesBy expression_outcome (OpeningRead text depth s tape tape') (opening_at text depth s place) r
+abbrev pub OpeningAgrees : Bytes → ℕ → ExpressionCounts → ℕ → List ℕ → List ℕ → Result ExpressionCounts Fault → Type 0
+OpeningAgrees text depth s place tape tape' r = Agrees (OpeningRead text depth s tape tape') (opening_at text depth s place) r
 
 -- one call too deep, one item too many
 module _ (depth items : ℕ) where
@@ -52,8 +51,8 @@ module _ (depth items : ℕ) where
 
 pub call-limited : (text : Bytes) (depth : ℕ) (s : ExpressionCounts) (place : ℕ) {tape tape' : List ℕ} →
     both (ltb depth max_nesting) (leb (s.items + 1) max_items) ≡ false
-    → OpeningAgrees text depth s place tape tape' (Stopped (fault_at OverLimit place))
-call-limited text depth s place e = stops-by refl (rw e)
+    → OpeningAgrees text depth s place tape tape' (Err (record { refusal = OverLimit; place = place }))
+call-limited text depth s place e = stops (rw e)
 
 -- a call may stand here, and a token comes after its `<`
 pub record CallComes (text : Bytes) (depth : ℕ) (s : ExpressionCounts) (place : ℕ) (t : Code.Placed) : Type 0 where
@@ -70,8 +69,8 @@ module _ {text : Bytes} {depth : ℕ} {s : ExpressionCounts} {place : ℕ} {t : 
 
   pub call-nameless : {tape tape' : List ℕ} {fault : Fault} → NoName t.token
       → FaultOf t fault
-      → OpeningAgrees text depth s place tape tape' (Stopped fault)
-  call-nameless n f = refused-by refl k.comes (at_name ∙ names-not k.comes _ _ n) f
+      → OpeningAgrees text depth s place tape tape' (Err fault)
+  call-nameless n f = refused k.comes (at_name ∙ names-not k.comes _ _ n) f
 
 -- the token is a name
 pub record CallName {text : Bytes} {depth : ℕ} {s : ExpressionCounts} {place : ℕ} {t : Code.Placed} (call : CallComes text depth s place t)
@@ -83,11 +82,11 @@ module _ {text : Bytes} {depth : ℕ} {s : ExpressionCounts} {place : ℕ} {t : 
   pub named_here : NameFirst text Tokens.naming s.at t n
   named_here = name-first call.comes m.is
 
-  pub call-misnamed : {tape tape' : List ℕ} {answer : Answer}
-      → answer_number answer ≡ Reading.called_fault (View.span_text text n) → eqb (answer_number answer) 0 ≡ false
-      → OpeningAgrees text depth s place tape tape' (Stopped (fault_at answer t.place))
-  call-misnamed {answer = answer} f w =
-      stops-by refl (at_name call ∙ rw (named_here.unrolled, ← f) (check-wrong (answer_number answer) _ _ w))
+  pub call-misnamed : {tape tape' : List ℕ} {fault : Fault}
+      → refusal_number fault.refusal ≡ Reading.called_fault (View.span_text text n) → fault.place ≡ t.place
+      → OpeningAgrees text depth s place tape tape' (Err fault)
+  call-misnamed {fault = fault} f p =
+      stops (at_name call ∙ rw (named_here.unrolled, ← f, p) (check-wrong (refusal_number fault.refusal) _ _ (not-accepted fault.refusal)))
 
 -- it has no fault
 pub record CallNamed {text : Bytes} {depth : ℕ} {s : ExpressionCounts} {place : ℕ} {t : Code.Placed} {call : CallComes text depth s place t}
@@ -120,10 +119,10 @@ module _ {text : Bytes} {depth : ℕ} {s : ExpressionCounts} {place : ℕ} {t : 
   pub call_opens : {tape tape' : List ℕ} {words : ℕ}
       → WroteOnTape tape s.words (((call_kind + t.place) * kind_width + (n.past - n.from)) ∷ View.span_text text n) words tape'
       × T (every is_quiet (View.span_text text n))
-      → OpeningAgrees text depth s place tape tape' (Done (record { at = t.past; words = words; items = s.items + 1; passed = s.passed }))
+      → OpeningAgrees text depth s place tape tape' (Ok (record { at = t.past; words = words; items = s.items + 1; passed = s.passed }))
   call_opens w =
       let k = call.comes in
-      reads-by refl (record { place = t.place; name = View.span_text text n }) (stream text Tokens.inside t.past)
+      reads (record { place = t.place; name = View.span_text text n }) (stream text Tokens.inside t.past)
       (at_name call ∙ rw (here.unrolled, m.sound))
       (record {
         tokens = refl;

@@ -20,25 +20,21 @@ use Rattle.read_tokens.specs.View.{token_of, placed_of, stream, Comes}
 use Rattle.read_tokens.specs.declared.Token.{Token}
 use Rattle.read_tokens.specs.declared.Token.TheVariants.{Sign}
 use Rattle.read_tokens.specs.declared.Placed as Code
-use Rattle.answers.specs.declared.Answer.TheVariants.{OverLimit}
-use Rattle.read_bookkeeping.specs.declared.progress.Fault.{Fault}
+use Rattle.std.specs.Prelude.{Result, Ok, Err}
+use Rattle.answers.specs.declared.Refusal.TheVariants.{OverLimit}
+use Rattle.answers.specs.declared.Fault.{Fault}
 use Rattle.read_bookkeeping.specs.declared.progress.Progress.{Progress}
-use Rattle.read_bookkeeping.specs.declared.progress.Parsed.{Parsed as CodeParsed}
-use Rattle.read_bookkeeping.specs.declared.progress.Parsed.TheVariants.{Stopped, Done}
+use Rattle.read_bookkeeping.specs.declared.variables.Variables.{Variables}
 use Rattle.read_patterns.specs.declared.Counts.{Counts}
-use Rattle.read_patterns.specs.declared.ParsedPattern.{ParsedPattern}
-use Rattle.read_patterns.specs.declared.ParsedPattern.TheVariants.{Stopped as StoppedPattern, Done as DonePattern}
 use Rattle.read_functions.specs.declared.expressions.ExpressionCounts.{ExpressionCounts}
-use Rattle.read_functions.specs.declared.expressions.ParsedExpression.{ParsedExpression}
-use Rattle.read_functions.specs.declared.expressions.ParsedExpression.TheVariants.{Stopped as StoppedEarly, Done as DoneEarly}
-use Rattle.read_functions.specs.declared.sentences.Sequel.TheVariants.{Ends, Another, Refused}
-use Rattle.read_bookkeeping.specs.Answered.{parsed_outcome, Agrees}
+use Rattle.read_functions.specs.declared.sentences.Sequel.TheVariants.{Ends, Another}
+use Rattle.read_bookkeeping.specs.Answered.{Agrees}
 use Rattle.read_bookkeeping.specs.Written.{Ready}
 use Rattle.read_bookkeeping.specs.Tokened.{sign_is, unless_word, Taken}
-use Rattle.read_bookkeeping.specs.Items.{Variables, symbol_names, part_names}
-use Rattle.read_patterns.specs.Patterns.{PatternRead, pattern_outcome, PatternAgrees}
+use Rattle.read_bookkeeping.specs.Items.{Known, symbol_names, part_names}
+use Rattle.read_patterns.specs.Patterns.{PatternRead}
 use Rattle.read_conditions.specs.Conditions.{ConditionsRead}
-use Rattle.read_functions.specs.Expressions.{Going, fault_at, without_counts}
+use Rattle.read_functions.specs.Expressions.{Going, fault_at, uncounted}
 use Rattle.read_functions.specs.Sentences.{from_equals, EqualsRead, SentenceRead, begins_sentence, sentence_within_limit, first_sentence}
 use Rattle.read_functions.specs.Sentences.{FirstRead, Follows}
 use Rattle.read_bookkeeping.proofs.Items.{variable-of, variable-at}
@@ -73,13 +69,13 @@ begins-same {text} {t = t} c =
 -- WHAT COMES AFTER A SENTENCE
 
 module _ {text : Bytes} {from : ℕ} where
-  pub ends-at-once : {past : ℕ} → Taken text Tokens.inside Tokens.right_brace from past → Follows text from (Ends past)
+  pub ends-at-once : {past : ℕ} → Taken text Tokens.inside Tokens.right_brace from past → Follows text from (Ok (Ends past))
   ends-at-once k = record { gives = (λ more s. rw k.unrolled, k.onward, k.inside) }
 
   pub follows_nothing : {t : Code.Placed} {fault : Fault} → Comes text Tokens.inside from t → sign_is Tokens.right_brace t.token ≡ false
       → sign_is Tokens.semicolon t.token ≡ false
       → FaultOf t fault
-      → Follows text from (Refused fault)
+      → Follows text from (Err fault)
   follows_nothing {t} c e d f =
       record {
         gives = λ more s. rw (
@@ -92,11 +88,11 @@ module _ {text : Bytes} {from : ℕ} where
       }
 
   module _ {next : ℕ} (k : Taken text Tokens.inside Tokens.semicolon from next) where
-    pub ends-after : {past : ℕ} → Taken text Tokens.inside Tokens.right_brace next past → Follows text from (Ends past)
+    pub ends-after : {past : ℕ} → Taken text Tokens.inside Tokens.right_brace next past → Follows text from (Ok (Ends past))
     ends-after l = record { gives = (λ more s. rw (k.unrolled, l.unrolled), omega (arith, k.onward, l.onward), l.inside) }
 
     pub goes_after : {t : Code.Placed} → Comes text Tokens.inside next t → sign_is Tokens.right_brace t.token ≡ false
-        → Follows text from (Another t.place)
+        → Follows text from (Ok (Another t.place))
     goes_after {t} c e =
         record {
           gives = (
@@ -111,9 +107,9 @@ module _ {text : Bytes} {from : ℕ} where
 abbrev expression_start : ℕ → ℕ → ExpressionCounts
 expression_start at words = record { at = at; words = words + 1; items = 0; passed = 0 }
 
-abbrev EqualsAgrees : Bytes → List ℕ → ℕ → ℕ → ℕ → ℕ → List ℕ → List ℕ → CodeParsed → Type 0
-EqualsAgrees text table symbols parts from words tape tape' r =
-    Agrees (EqualsRead text from words tape tape') (from_equals (symbol_names text table symbols) (part_names text table parts)
+abbrev EqualsAgrees : Bytes → Variables → ℕ → ℕ → List ℕ → List ℕ → Result Progress Fault → Type 0
+EqualsAgrees text v from words tape tape' r =
+    Agrees (EqualsRead text from words tape tape') (from_equals (symbol_names text v) (part_names text v)
     (stream text Tokens.inside from)) r
 
 -- the `=` was passed
@@ -125,11 +121,11 @@ module _ {text : Bytes} {from words at : ℕ} (q : AfterEquals text from words a
   pub equals-room : words < max_table
   equals-room = omega (arith, q.ready.charged, q.ready.short, q.taken.onward, q.taken.inside)
 
-  module _ {table : List ℕ} {symbols parts : ℕ} where
-    pub equals-going : Variables text table symbols parts → Going text table symbols parts (expression_start at words)
-    equals-going v =
+  module _ {v : Variables} where
+    pub equals-going : Known text v → Going text v (expression_start at words)
+    equals-going known =
         record {
-          variables = v;
+          variables = known;
           passed = omega arith;
           few = omega arith;
           ready =
@@ -140,29 +136,29 @@ module _ {text : Bytes} {from words at : ℕ} (q : AfterEquals text from words a
               };
         }
 
-    pub equals-reads : {tape tape₁ tape' : List ℕ} {r : ParsedExpression} {there : CodeParsed} → tape₁ ≡ set tape words 1024
+    -- what the expression's reader came to, with every bound that is large enough
+    pub equals-stop : {tape tape₁ tape' : List ℕ} {fault : Fault}
         → ((bound : ℕ) → length (stream text Tokens.inside at) ≤ bound
-        → ExpressionAgrees text table symbols parts bound 0 (expression_start at words) tape₁ tape' r)
-        → there ≡ without_counts r
-        → EqualsAgrees text table symbols parts from words tape tape' there
-    equals-reads {tape} {tape₁} {tape'} {r} e a same = rw same (told r (a (length (stream text Tokens.inside at)) (omega arith)))
-      where
-        told : (q' : ParsedExpression)
-            → ExpressionAgrees text table symbols parts (length (stream text Tokens.inside at)) 0 (expression_start at words) tape₁ tape' q'
-            → EqualsAgrees text table symbols parts from words tape tape' (without_counts q')
-        told (StoppedEarly fault) h = stops-too h refl refl (λ k. passes_on _ q.taken ∙ k)
-        told (DoneEarly s) h =
-            let k = has-read _ s refl h in
-            reads k.value k.rest (passes_on _ q.taken ∙ k.same)
-            (record {
-              tokens = k.how.tokens;
-              went = went_then (word-went q.ready q.taken.onward q.taken.inside e) k.how.went;
-              stands = k.how.stands;
-            })
+        → ExpressionAgrees text v bound 0 (expression_start at words) tape₁ tape' (Err fault))
+        → EqualsAgrees text v from words tape tape' (Err fault)
+    equals-stop a = stops-too (a (length (stream text Tokens.inside at)) (omega arith)) refl refl (λ k. passes_on _ q.taken ∙ k)
+
+    pub equals-read : {tape tape₁ tape' : List ℕ} {s : ExpressionCounts} → tape₁ ≡ set tape words 1024
+        → ((bound : ℕ) → length (stream text Tokens.inside at) ≤ bound
+        → ExpressionAgrees text v bound 0 (expression_start at words) tape₁ tape' (Ok s))
+        → EqualsAgrees text v from words tape tape' (Ok (uncounted s))
+    equals-read {s = s} e a =
+        let k = has-read _ s refl (a (length (stream text Tokens.inside at)) (omega arith)) in
+        reads k.value k.rest (passes_on _ q.taken ∙ k.same)
+        (record {
+          tokens = k.how.tokens;
+          went = went_then (word-went q.ready q.taken.onward q.taken.inside e) k.how.went;
+          stands = k.how.stands;
+        })
 
 -- A SENTENCE
 
-abbrev SentenceAgrees : Bytes → ℕ → ℕ → List ℕ → List ℕ → CodeParsed → Type 0
+abbrev SentenceAgrees : Bytes → ℕ → ℕ → List ℕ → List ℕ → Result Progress Fault → Type 0
 SentenceAgrees text from words tape tape' r =
     Agrees (SentenceRead text from words tape tape') (unless_word (Reading.parse_sentence (stream text Tokens.inside from))) r
 
@@ -188,58 +184,64 @@ sentence-is ts =
     ∙ word-at-once (Reading.parse_pattern [] ts) after_pattern (λ p w place past rest. refl)
 
 -- what the definition reads after the pattern
-abbrev conditions_at : Bytes → List ℕ → Counts → Parsed (List Condition)
-conditions_at text table p =
-    Reading.parse_conditions max_conditions (symbol_names text table p.symbols) (part_names text table p.parts) (stream text Tokens.inside p.at)
+abbrev conditions_at : Bytes → Variables → ℕ → Parsed (List Condition)
+conditions_at text v at =
+    Reading.parse_conditions max_conditions (symbol_names text v) (part_names text v) (stream text Tokens.inside at)
 
 -- the pattern was read
-pub record AfterPattern (text : Bytes) (from words : ℕ) (tape table tape₁ : List ℕ) (p : Counts) : Type 0 where
+pub record AfterPattern (text : Bytes) (from words : ℕ) (tape : List ℕ) (v : Variables) (tape₁ : List ℕ) (p : Counts) : Type 0 where
   pub ready : Ready text from words
-  pub read : ReadAt (PatternRead text from words tape table tape₁) (unless_word (Reading.parse_pattern [] (stream text Tokens.inside from))) p
+  pub read : ReadAt (PatternRead text from words tape v tape₁) (unless_word (Reading.parse_pattern [] (stream text Tokens.inside from))) p
 
 -- the conditions were read after it
-pub record AfterConditions {text : Bytes} {from words : ℕ} {tape table tape₁ : List ℕ} {p : Counts}
-    (pattern : AfterPattern text from words tape table tape₁ p) (tape₂ : List ℕ) (c : Progress) : Type 0 where
-  pub read : ReadAt (ConditionsRead text p.at p.words tape₁ tape₂) (conditions_at text table p) c
+pub record AfterConditions {text : Bytes} {from words : ℕ} {tape : List ℕ} {v : Variables} {tape₁ : List ℕ} {p : Counts}
+    (pattern : AfterPattern text from words tape v tape₁ p) (tape₂ : List ℕ) (c : Progress) : Type 0 where
+  pub read : ReadAt (ConditionsRead text p.at p.words tape₁ tape₂) (conditions_at text v p.at) c
 
-module _ {text : Bytes} {from words : ℕ} {tape table tape₁ : List ℕ} {r : ParsedPattern}
-    (a : PatternAgrees text from words tape table tape₁ r) where
-  pub pattern-stops : {fault : Fault} → r ≡ StoppedPattern fault → SentenceAgrees text from words tape tape₁ (Stopped fault)
-  pattern-stops e = stops-too a (ap pattern_outcome e) refl (λ h. sentence-is _ ∙ rw h)
+module _ {text : Bytes} {from words : ℕ} {tape : List ℕ} {v : Variables} {tape₁ : List ℕ} where
+  pub pattern-stops : {fault : Fault}
+      → Agrees (PatternRead text from words tape v tape₁) (unless_word (Reading.parse_pattern [] (stream text Tokens.inside from))) (Err fault)
+      → SentenceAgrees text from words tape tape₁ (Err fault)
+  pattern-stops a = stops-too a refl refl (λ h. sentence-is _ ∙ rw h)
 
-  pub pattern-done : {p : Counts} → Ready text from words → r ≡ DonePattern p → AfterPattern text from words tape table tape₁ p
-  pattern-done ready e = record { ready = ready; read = has-read _ _ refl (rw e at a) }
+  pub pattern-done : {p : Counts}
+      → Agrees (PatternRead text from words tape v tape₁) (unless_word (Reading.parse_pattern [] (stream text Tokens.inside from))) (Ok p)
+      → Ready text from words → AfterPattern text from words tape v tape₁ p
+  pattern-done a ready = record { ready = ready; read = has-read _ _ refl a }
 
-module _ {text : Bytes} {from words : ℕ} {tape table tape₁ : List ℕ} {p : Counts} (k : AfterPattern text from words tape table tape₁ p) where
+module _ {text : Bytes} {from words : ℕ} {tape : List ℕ} {v : Variables} {tape₁ : List ℕ} {p : Counts}
+    (k : AfterPattern text from words tape v tape₁ p) where
   pub pattern-ready : Ready text p.at p.words
   pattern-ready = ready-after k.ready.short k.read.how.went
 
-  pub pattern-variables : Variables text table p.symbols p.parts
+  pub pattern-variables : Known text v
   pattern-variables = k.read.how.variables
 
   at-conditions : unless_word (Reading.parse_sentence (stream text Tokens.inside from))
-      ≡ follow (conditions_at text table p) (λ cs ts. follow (from_equals (symbol_names text table p.symbols) (part_names text table p.parts) ts)
+      ≡ follow (conditions_at text v p.at) (λ cs ts. follow (from_equals (symbol_names text v) (part_names text v) ts)
       (λ i rest. parsed (with_expression k.read.value cs i) rest))
   at-conditions =
       sentence-is _
       ∙ rw (k.read.same, k.read.how.tokens, k.read.how.symbols, k.read.how.parts)
-      (follow-same (conditions_at text table p) (λ cs ts. pass-follow Tokens.equals ts _ _))
+      (follow-same (conditions_at text v p.at) (λ cs ts. pass-follow Tokens.equals ts _ _))
 
-  module _ {tape₂ : List ℕ} {r : CodeParsed} (a : Agrees (ConditionsRead text p.at p.words tape₁ tape₂) (conditions_at text table p) r) where
-    pub conditions-stop : {fault : Fault} → r ≡ Stopped fault → SentenceAgrees text from words tape tape₂ (Stopped fault)
-    conditions-stop e = stops-too a (ap parsed_outcome e) refl (λ h. at-conditions ∙ rw h)
+  module _ {tape₂ : List ℕ} where
+    pub conditions-stop : {fault : Fault}
+        → Agrees (ConditionsRead text p.at p.words tape₁ tape₂) (conditions_at text v p.at) (Err fault) → SentenceAgrees text from words tape tape₂ (Err fault)
+    conditions-stop a = stops-too a refl refl (λ h. at-conditions ∙ rw h)
 
-    pub conditions-done : {c : Progress} → r ≡ Done c → AfterConditions k tape₂ c
-    conditions-done e = record { read = has-read _ _ refl (rw e at a) }
+    pub conditions-done : {c : Progress}
+        → Agrees (ConditionsRead text p.at p.words tape₁ tape₂) (conditions_at text v p.at) (Ok c) → AfterConditions k tape₂ c
+    conditions-done a = record { read = has-read _ _ refl a }
 
-module _ {text : Bytes} {from words : ℕ} {tape table tape₁ : List ℕ} {p : Counts} {k : AfterPattern text from words tape table tape₁ p}
-    {tape₂ : List ℕ} {c : Progress}
+module _ {text : Bytes} {from words : ℕ} {tape : List ℕ} {v : Variables} {tape₁ : List ℕ} {p : Counts}
+    {k : AfterPattern text from words tape v tape₁ p} {tape₂ : List ℕ} {c : Progress}
     (l : AfterConditions k tape₂ c) where
   pub conditions-ready : Ready text c.at c.words
   conditions-ready = ready-after k.ready.short l.read.how.went
 
-  pub sentence-reads : {tape' : List ℕ} {r : CodeParsed}
-      → EqualsAgrees text table p.symbols p.parts c.at c.words tape₂ tape' r
+  pub sentence-reads : {tape' : List ℕ} {r : Result Progress Fault}
+      → EqualsAgrees text v c.at c.words tape₂ tape' r
       → SentenceAgrees text from words tape tape' r
   sentence-reads a =
       makes (with_expression k.read.value l.read.value) _
@@ -258,20 +260,20 @@ sentence-of : (left : ℕ) (t : Tokens.Placed) (ts : List Tokens.Placed) → (le
 sentence-of zero t ts h = absurd (h refl)
 sentence-of (suc left) t ts h = refl
 
-abbrev FirstAgrees : Bytes → ℕ → ℕ → ℕ → List ℕ → List ℕ → CodeParsed → Type 0
+abbrev FirstAgrees : Bytes → ℕ → ℕ → ℕ → List ℕ → List ℕ → Result Progress Fault → Type 0
 FirstAgrees text left from words tape tape' r =
     Agrees (FirstRead text left from words tape tape') (first_sentence left (stream text Tokens.inside from)) r
 
 module _ (left words : ℕ) {text : Bytes} {from : ℕ} {t : Code.Placed} (c : Comes text Tokens.inside from t) where
   pub first-refused : {tape tape' : List ℕ} {fault : Fault} → begins_sentence t.token ≡ false → FaultOf t fault
-      → FirstAgrees text left from words tape tape' (Stopped fault)
+      → FirstAgrees text left from words tape tape' (Err fault)
   first-refused e f = refused c (rw (c.unrolled, begins-same c ∙ e)) f
 
   module _ (e : begins_sentence t.token ≡ true) where
-    pub first-many : {tape tape' : List ℕ} → left ≡ 0 → FirstAgrees text left from words tape tape' (Stopped (fault_at OverLimit t.place))
+    pub first-many : {tape tape' : List ℕ} → left ≡ 0 → FirstAgrees text left from words tape tape' (Err (fault_at OverLimit t.place))
     first-many z = stops (rw (c.unrolled, begins-same c ∙ e, z))
 
-    pub first_reads : (left ≡ 0 → ⊥) → {tape tape' : List ℕ} {r : CodeParsed} → SentenceAgrees text t.place words tape tape' r
+    pub first_reads : (left ≡ 0 → ⊥) → {tape tape' : List ℕ} {r : Result Progress Fault} → SentenceAgrees text t.place words tape tape' r
         → FirstAgrees text left from words tape tape' r
     first_reads z a =
         makes (λ s. s) _

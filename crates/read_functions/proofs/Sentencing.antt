@@ -13,20 +13,18 @@ use Rattle.meaning.specs.Reading as Reading
 use Rattle.meaning.specs.Reading.{Parsed, follow, whether, after_sentence}
 use Rattle.meaning.specs.Allowed.{max_table}
 use Rattle.read_tokens.specs.View.{stream}
-use Rattle.read_bookkeeping.specs.declared.progress.Fault.{Fault}
+use Rattle.std.specs.Prelude.{Result, Ok, Err}
+use Rattle.answers.specs.declared.Fault.{Fault}
 use Rattle.read_bookkeeping.specs.declared.progress.Progress.{Progress}
-use Rattle.read_bookkeeping.specs.declared.progress.Parsed.{Parsed as CodeParsed}
-use Rattle.read_bookkeeping.specs.declared.progress.Parsed.TheVariants.{Stopped as StoppedOne, Done as DoneOne}
-use Rattle.read_functions.specs.declared.sentences.ParsedSentences.{ParsedSentences}
-use Rattle.read_functions.specs.declared.sentences.ParsedSentences.TheVariants.{Stopped, Done}
+use Rattle.read_functions.specs.declared.sentences.SentencesEnd.{SentencesEnd}
 use Rattle.read_functions.specs.declared.sentences.Sequel.{Sequel}
-use Rattle.read_functions.specs.declared.sentences.Sequel.TheVariants.{Ends, Another, Refused}
-use Rattle.read_bookkeeping.specs.Answered.{parsed_outcome, AgreesBy, Agrees}
+use Rattle.read_functions.specs.declared.sentences.Sequel.TheVariants.{Ends, Another}
+use Rattle.read_bookkeeping.specs.Answered.{Agrees}
 use Rattle.read_bookkeeping.specs.Written.{Ready, Went}
 use Rattle.read_functions.specs.Sentences.{Each, SentenceStands, sentence_within_limit, first_sentence, FirstRead, Follows}
-use Rattle.read_functions.specs.Sentences.{SentencesRead, sentences_outcome}
+use Rattle.read_functions.specs.Sentences.{SentencesRead}
 use Rattle.read_bookkeeping.proofs.Refusing.{word-at-once}
-use Rattle.read_bookkeeping.proofs.Going.{stops-by, reads-by, ReadAt, has-read, follow-alone, behind, behind_more, went-none, went_then, word-went}
+use Rattle.read_bookkeeping.proofs.Going.{stops, reads, ReadAt, has-read, follow-alone, behind, behind_more, went-none, went_then, word-went}
 use Rattle.read_bookkeeping.proofs.Going.{ready-after, stops-too}
 
 -- it holds of none, of these and those, and of one more
@@ -110,9 +108,9 @@ pub record Sentenced (text start : List ℕ) (limit from words : ℕ) (tape : Li
   pub stand : Each SentenceStands before
   pub short : length text ≤ max_table
 
-abbrev SentencesAgree : Bytes → ℕ → ℕ → ℕ → List ℕ → List ℕ → ParsedSentences → Type 0
+abbrev SentencesAgree : Bytes → ℕ → ℕ → ℕ → List ℕ → List ℕ → Result SentencesEnd Fault → Type 0
 SentencesAgree text limit from words start tape r =
-    AgreesBy sentences_outcome (SentencesRead text limit from words start tape) (Reading.parse_sentences limit (stream text Tokens.inside from)) r
+    Agrees (SentencesRead text limit from words start tape) (Reading.parse_sentences limit (stream text Tokens.inside from)) r
 
 pub sentences-start : (text start : List ℕ) (limit from words : ℕ) → Ready text from words →
     Sentenced text start limit from words start from words limit
@@ -137,11 +135,10 @@ module _ {text start : List ℕ} {limit from words : ℕ} {tape : List ℕ} {at 
         (behind k.before)
     at-sentence = k.same ∙ rw (sentences-are left (stream text Tokens.inside at))
 
-    pub sentence-stops : {tape' : List ℕ} {r : CodeParsed} {fault : Fault}
-        → Agrees (FirstRead text left at to tape tape') (first_sentence left (stream text Tokens.inside at)) r
-        → r ≡ StoppedOne fault
-        → SentencesAgree text limit from words start tape' (Stopped fault)
-    sentence-stops a e = stops-too a (ap parsed_outcome e) refl (λ h. at-sentence ∙ rw h)
+    pub sentence-stops : {tape' : List ℕ} {fault : Fault}
+        → Agrees (FirstRead text left at to tape tape') (first_sentence left (stream text Tokens.inside at)) (Err fault)
+        → SentencesAgree text limit from words start tape' (Err fault)
+    sentence-stops a = stops-too a refl refl (λ h. at-sentence ∙ rw h)
 
 -- a sentence was read after those
 pub record OneMore (text start : List ℕ) (limit from words left : ℕ) (tape₁ : List ℕ) (s : Progress) : Type 0 where
@@ -151,12 +148,11 @@ pub record OneMore (text start : List ℕ) (limit from words left : ℕ) (tape�
   pub others : Sentenced text start limit from words tape at to left
   pub read : ReadAt (FirstRead text left at to tape tape₁) (first_sentence left (stream text Tokens.inside at)) s
 
-pub one_more_lem : {text start : List ℕ} {limit from words : ℕ} {tape : List ℕ} {at to left : ℕ} {tape₁ : List ℕ} {s : Progress} {p : CodeParsed}
+pub one_more_lem : {text start : List ℕ} {limit from words : ℕ} {tape : List ℕ} {at to left : ℕ} {tape₁ : List ℕ} {s : Progress}
     → Sentenced text start limit from words tape at to left
-    → p ≡ DoneOne s
-    → Agrees (FirstRead text left at to tape tape₁) (first_sentence left (stream text Tokens.inside at)) p
+    → Agrees (FirstRead text left at to tape tape₁) (first_sentence left (stream text Tokens.inside at)) (Ok s)
     → OneMore text start limit from words left tape₁ s
-one_more_lem k e a = record { tape = _; at = _; to = _; others = k; read = has-read _ _ refl (rw e at a) }
+one_more_lem k a = record { tape = _; at = _; to = _; others = k; read = has-read _ _ refl a }
 
 module _ {text start : List ℕ} {limit from words left : ℕ} {tape₁ : List ℕ} {s : Progress} (o : OneMore text start limit from words left tape₁ s)
   where
@@ -191,51 +187,42 @@ module _ {text start : List ℕ} {limit from words left : ℕ} {tape₁ : List �
     stand-more : Each SentenceStands (before ++ last ∷ [])
     stand-more = each_more SentenceStands before last o.others.stand read-so.read.stands
 
--- what comes after it is known
-pub record Sequelled {text start : List ℕ} {limit from words left : ℕ} {tape₁ : List ℕ} {s : Progress}
-    (one : OneMore text start limit from words left tape₁ s) (q : Sequel) : Type 0 where
-  pub follows : Follows text s.at q
+module _ {text start : List ℕ} {limit from words left : ℕ} {tape₁ : List ℕ} {s : Progress} (one : OneMore text start limit from words left tape₁ s)
+  where
+    abbrev others : List Sentence
+    others = before one
 
-module _ {text start : List ℕ} {limit from words left : ℕ} {tape₁ : List ℕ} {s : Progress} {one : OneMore text start limit from words left tape₁ s}
-    {q : Sequel} (w : Sequelled one q) where
-  followed : {q' : Sequel} → q ≡ q' → Follows text s.at q'
-  followed e = rw e at w.follows
+    abbrev newest : Sentence
+    newest = last one
 
-  abbrev others : List Sentence
-  others = before one
+    pub sequel-refused : {tape' : List ℕ} {fault : Fault} → Follows text s.at (Err fault) → SentencesAgree text limit from words start tape' (Err fault)
+    sequel-refused w = stops (at-sequel one ∙ rw (w.gives (Reading.parse_sentences (left - 1)) newest))
 
-  abbrev newest : Sentence
-  newest = last one
+    pub sequel-ends : {tape' : List ℕ} {past : ℕ} → Follows text s.at (Ok (Ends past)) → tape' ≡ set tape₁ s.words 1792
+        → SentencesAgree text limit from words start tape' (Ok (record { at = past; words = s.words + 1; left = left - 1 }))
+    sequel-ends {past = past} w put =
+        let f = w.gives in
+        reads (others ++ newest ∷ []) (stream text Tokens.outside past)
+        (at-sequel one ∙ rw (f.0 (Reading.parse_sentences (left - 1)) newest))
+        (record {
+          tokens = refl;
+          went = rw (parted-last others newest) (sentence-went one (tape_word end_kind 0) f.1 f.2 put);
+          left = counted-more one;
+          stand = stand-more one;
+        })
 
-  pub sequel-refused : {tape' : List ℕ} {fault : Fault} → q ≡ Refused fault → SentencesAgree text limit from words start tape' (Stopped fault)
-  sequel-refused e =
-      stops-by refl (at-sequel one ∙ rw ((followed e).gives (Reading.parse_sentences (left - 1)) newest))
-
-  pub sequel-ends : {tape' : List ℕ} {past : ℕ} → q ≡ Ends past → tape' ≡ set tape₁ s.words 1792
-      → SentencesAgree text limit from words start tape' (Done (record { at = past; words = s.words + 1; left = left - 1 }))
-  sequel-ends {past = past} e put =
-      let f = (followed e).gives in
-      reads-by refl (others ++ newest ∷ []) (stream text Tokens.outside past)
-      (at-sequel one ∙ rw (f.0 (Reading.parse_sentences (left - 1)) newest))
-      (record {
-        tokens = refl;
-        went = rw (parted-last others newest) (sentence-went one (tape_word end_kind 0) f.1 f.2 put);
-        left = counted-more one;
-        stand = stand-more one;
-      })
-
-  pub sequel-goes : {tape' : List ℕ} {place : ℕ} → q ≡ Another place → tape' ≡ set tape₁ s.words 1536
-      → Sentenced text start limit from words tape' place (s.words + 1) (left - 1)
-  sequel-goes {place = place} e put =
-      let f = (followed e).gives in
-      record {
-        before = others ++ newest ∷ [];
-        same =
-            at-sequel one
-            ∙ rw (f.0 (Reading.parse_sentences (left - 1)) newest)
-            (behind_more others newest (Reading.parse_sentences (left - 1) (stream text Tokens.inside place)));
-        went = rw (parted-more others newest) (sentence-went one (tape_word next_kind 0) f.1 f.2 put);
-        counted = counted-more one;
-        stand = stand-more one;
-        short = one.others.short;
-      }
+    pub sequel-goes : {tape' : List ℕ} {place : ℕ} → Follows text s.at (Ok (Another place)) → tape' ≡ set tape₁ s.words 1536
+        → Sentenced text start limit from words tape' place (s.words + 1) (left - 1)
+    sequel-goes {place = place} w put =
+        let f = w.gives in
+        record {
+          before = others ++ newest ∷ [];
+          same =
+              at-sequel one
+              ∙ rw (f.0 (Reading.parse_sentences (left - 1)) newest)
+              (behind_more others newest (Reading.parse_sentences (left - 1) (stream text Tokens.inside place)));
+          went = rw (parted-more others newest) (sentence-went one (tape_word next_kind 0) f.1 f.2 put);
+          counted = counted-more one;
+          stand = stand-more one;
+          short = one.others.short;
+        }

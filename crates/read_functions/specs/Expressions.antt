@@ -1,8 +1,9 @@
 -- Expressions and calls while they are read: what the code counts of them, what a token adds, and that the readers
 -- agree with meaning's Reading.
-use Rattle.std.specs.Prelude.{ℕ, ◌+◌, ◌-◌, ◌≤◌, ◌<◌, ◌≡◌, true, false, List, [], ◌∷◌, ◌++◌, T, eqb, length, set}
+use Rattle.std.specs.Prelude.{ℕ, ◌+◌, ◌-◌, ◌≤◌, ◌<◌, ◌≡◌, ◌⊎◌, true, List, [], ◌∷◌, ◌++◌, T, length, drop, set}
+use Rattle.std.specs.Prelude.{Option, Some, None, Result, Ok, Err, MatchResult}
 use Rattle.meaning.specs.Choice.{Bytes, Name, every}
-use Rattle.meaning.specs.Allowed.{max_name, max_symbols, max_items, max_nesting}
+use Rattle.meaning.specs.Allowed.{max_name, max_items, max_nesting}
 use Rattle.meaning.specs.Tree.{Expression, end, then_character, then_symbol, then_part, then_call}
 use Rattle.tape_layout.specs.Tape.{tape_word, named, symbol_kind, part_kind, call_kind, close_kind, expression_tape}
 use Rattle.meaning.specs.Tokens as Tokens
@@ -11,31 +12,25 @@ use Rattle.meaning.specs.Reading.{parsed, Item, characters, symbol_item, part_it
 use Rattle.read_tokens.specs.View.{span_text, stream}
 use Rattle.read_tokens.specs.declared.Span.{Span}
 use Rattle.read_tokens.specs.declared.Placed.{Placed}
-use Rattle.answers.specs.declared.Answer.{Answer}
+use Rattle.answers.specs.declared.Refusal.{Refusal}
+use Rattle.answers.specs.declared.Fault.{Fault}
 use Rattle.read_functions.specs.declared.expressions.ExpressionCounts.{ExpressionCounts}
-use Rattle.read_functions.specs.declared.expressions.Joined.{Joined}
-use Rattle.read_functions.specs.declared.expressions.Joined.TheVariants.{Taken as Takes, Wrong, Refused, Other}
-use Rattle.read_bookkeeping.specs.Tables.{table_names}
-use Rattle.read_bookkeeping.specs.declared.progress.Fault.{Fault}
-use Rattle.read_bookkeeping.specs.declared.progress.Parsed.{Parsed}
-use Rattle.read_bookkeeping.specs.declared.progress.Parsed.TheVariants.{Stopped as StoppedThere, Done as DoneThere}
-use Rattle.read_functions.specs.declared.expressions.ParsedExpression.{ParsedExpression}
-use Rattle.read_functions.specs.declared.expressions.ParsedExpression.TheVariants.{Stopped, Done}
-use Rattle.answers.specs.Numbers.{answer_number}
-use Rattle.read_bookkeeping.specs.Answered.{ReadingOutcome, halted, reached}
+use Rattle.read_bookkeeping.specs.Tables.{names_in}
+use Rattle.read_bookkeeping.specs.declared.variables.Variables.{Variables}
+use Rattle.read_bookkeeping.specs.declared.progress.Progress.{Progress}
+use Rattle.answers.specs.Numbers.{refusal_number}
 use Rattle.read_bookkeeping.specs.Tokened.{Taken, Barred}
 use Rattle.read_bookkeeping.specs.Written.{WroteOnTape, is_quiet, Ready, Went}
-use Rattle.read_bookkeeping.specs.Items.{Variables, symbol_names, token_item, NoItem, WordRefused}
+use Rattle.read_bookkeeping.specs.Items.{Known, part_spans, symbol_names, token_item, NoItem, WordRefused}
 
 -- how far an expression is: its items, and the e-variables of the table that may still come
-abbrev pub progress_at : Bytes → List ℕ → ℕ → ExpressionCounts → Reading.Progress
-progress_at text table parts s =
-    record { items = s.items; coming = table_names text table (max_symbols + s.passed) (max_symbols + parts) }
+abbrev pub progress_at : Bytes → Variables → ExpressionCounts → Reading.Progress
+progress_at text v s = record { items = s.items; coming = names_in text (drop s.passed (part_spans v)) }
 
 -- what may come next is safe
-pub record Going (text : Bytes) (table : List ℕ) (symbols parts : ℕ) (s : ExpressionCounts) : Type 0 where
-  pub variables : Variables text table symbols parts
-  pub passed : s.passed ≤ parts
+pub record Going (text : Bytes) (v : Variables) (s : ExpressionCounts) : Type 0 where
+  pub variables : Known text v
+  pub passed : s.passed ≤ length (part_spans v)
   pub few : s.items ≤ max_items
   pub ready : Ready text s.at s.words
 
@@ -71,72 +66,61 @@ pub record VariableTaken (text : Bytes) (s : ExpressionCounts) (x : Span) (base 
   pub same : next ≡ record { at = x.past; words = next.words; items = s.items + 1; passed = passed }
 
 -- an item is taken into an expression
-pub record TakenInExpression (text : Bytes) (table : List ℕ) (symbols parts : ℕ) (s : ExpressionCounts) (tape : List ℕ)
+pub record TakenInExpression (text : Bytes) (v : Variables) (s : ExpressionCounts) (tape : List ℕ)
     (item : Item) (past : ℕ) (tape' : List ℕ) (next : ExpressionCounts) : Type 0 where
-  pub going : Going text table symbols parts next
+  pub going : Going text v next
   pub at : next.at ≡ past
   pub went : Went text s.at s.words tape next.at next.words tape' (item_tape item)
   pub quiet : T (every is_quiet (item_tape item))
-  pub fault : Reading.item_fault (symbol_names text table symbols) (progress_at text table parts s) item ≡ 0
-  pub progress : Reading.past_item item (progress_at text table parts s) ≡ progress_at text table parts next
+  pub fault : Reading.item_fault (symbol_names text v) (progress_at text v s) item ≡ 0
+  pub progress : Reading.past_item item (progress_at text v s) ≡ progress_at text v next
 
--- an item has a fault in an expression
-pub record WrongInExpression (text : Bytes) (table : List ℕ) (symbols parts : ℕ) (s : ExpressionCounts) (item : Item)
-    (answer : Answer) : Type 0 where
-  pub wrong : eqb (answer_number answer) 0 ≡ false
-  pub fault : Reading.item_fault (symbol_names text table symbols) (progress_at text table parts s) item
-      ≡ answer_number answer
+-- an item at a place has a fault in an expression
+pub record WrongInExpression (text : Bytes) (v : Variables) (s : ExpressionCounts) (item : Item) (at : ℕ)
+    (fault : Fault) : Type 0 where
+  pub number : Reading.item_fault (symbol_names text v) (progress_at text v s) item ≡ refusal_number fault.refusal
+  pub place : fault.place ≡ at
 
-abbrev pub ItemJoined : Bytes → List ℕ → ℕ → ℕ → ExpressionCounts → List ℕ → Item → ℕ → List ℕ → Joined → Type 0
-ItemJoined text table symbols parts s tape item past tape' (Takes next) =
-    TakenInExpression text table symbols parts s tape item past tape' next
-ItemJoined text table symbols parts s tape item past tape' (Wrong answer) =
-    WrongInExpression text table symbols parts s item answer
-ItemJoined text table symbols parts s tape item past tape' (Refused fault) = ⊥
-ItemJoined text table symbols parts s tape item past tape' Other = ⊥
+-- what comes of an item at a place
+pub record JoinsItem (text : Bytes) (v : Variables) (s : ExpressionCounts) (tape : List ℕ) (item : Item)
+    (place past : ℕ) (tape' : List ℕ) (r : Result ExpressionCounts Fault) : Type 0 where
+  pub gives : MatchResult r (λ next. TakenInExpression text v s tape item past tape' next)
+      (λ fault. WrongInExpression text v s item place fault)
 
--- what comes of an item
-pub record JoinsItem (text : Bytes) (table : List ℕ) (symbols parts : ℕ) (s : ExpressionCounts) (tape : List ℕ)
-    (item : Item) (past : ℕ) (tape' : List ℕ) (r : Joined) : Type 0 where
-  pub gives : ItemJoined text table symbols parts s tape item past tape' r
-
-abbrev pub TokenJoined : Bytes → List ℕ → ℕ → ℕ → ExpressionCounts → List ℕ → Placed → List ℕ → Joined → Type 0
-TokenJoined text table symbols parts s tape t tape' (Takes next) =
-    TakenInExpression text table symbols parts s tape (token_item text t) t.past tape' next
+-- a token was joined as an item, is neither an item nor a word, or is refused as an item or as a word
+abbrev pub TokenJoined : Bytes → Variables → ExpressionCounts → List ℕ → Placed → List ℕ
+    → Result (Option ExpressionCounts) Fault → Type 0
+TokenJoined text v s tape t tape' (Ok (Some next)) =
+    TakenInExpression text v s tape (token_item text t) t.past tape' next
     × (is_item (token_item text t) ≡ true)
-TokenJoined text table symbols parts s tape t tape' (Wrong answer) =
-    WrongInExpression text table symbols parts s (token_item text t) answer × (is_item (token_item text t) ≡ true)
-TokenJoined text table symbols parts s tape t tape' (Refused fault) = WordRefused text t fault
-TokenJoined text table symbols parts s tape t tape' Other = NoItem text t × (tape' ≡ tape)
+TokenJoined text v s tape t tape' (Ok None) = NoItem text t × (tape' ≡ tape)
+TokenJoined text v s tape t tape' (Err fault) =
+    (WrongInExpression text v s (token_item text t) t.place fault × (is_item (token_item text t) ≡ true))
+    ⊎ WordRefused text t fault
 
 -- what comes of a token
-pub record JoinsToken (text : Bytes) (table : List ℕ) (symbols parts : ℕ) (s : ExpressionCounts) (tape : List ℕ)
-    (t : Placed) (tape' : List ℕ) (r : Joined) : Type 0 where
-  pub gives : TokenJoined text table symbols parts s tape t tape' r
+pub record JoinsToken (text : Bytes) (v : Variables) (s : ExpressionCounts) (tape : List ℕ)
+    (t : Placed) (tape' : List ℕ) (r : Result (Option ExpressionCounts) Fault) : Type 0 where
+  pub gives : TokenJoined text v s tape t tape' r
 
 -- EXPRESSIONS AND CALLS
 
 -- a refusal
-abbrev pub fault_at : Answer → ℕ → Fault
-fault_at answer place = record { answer = answer; place = place }
-
-abbrev pub expression_outcome : ParsedExpression → ReadingOutcome ExpressionCounts
-expression_outcome (Stopped fault) = halted fault
-expression_outcome (Done e) = reached e
+abbrev pub fault_at : Refusal → ℕ → Fault
+fault_at refusal place = record { refusal = refusal; place = place }
 
 -- where nothing is counted
-abbrev pub without_counts : ParsedExpression → Parsed
-without_counts (Stopped fault) = StoppedThere fault
-without_counts (Done e) = DoneThere (record { at = e.at; words = e.words })
+abbrev pub uncounted : ExpressionCounts → Progress
+uncounted e = record { at = e.at; words = e.words }
 
 -- an expression was read
-pub record ExpressionRead (text : Bytes) (table : List ℕ) (symbols parts : ℕ) (start : ExpressionCounts)
+pub record ExpressionRead (text : Bytes) (v : Variables) (start : ExpressionCounts)
     (tape tape' : List ℕ) (i : Reading.Items) (rest : List Tokens.Placed) (s : ExpressionCounts) : Type 0 where
   pub tokens : rest ≡ stream text Tokens.inside s.at
   pub shorter : length rest ≤ length (stream text Tokens.inside start.at)
   pub went : Went text start.at start.words tape s.at s.words tape' (expression_tape i.expression)
-  pub progress : i.progress ≡ progress_at text table parts s
-  pub going : Going text table symbols parts s
+  pub progress : i.progress ≡ progress_at text v s
+  pub going : Going text v s
   pub stands : ExpressionStands i.expression
 
 -- a called name with its place
@@ -168,23 +152,24 @@ abbrev pub call_tape : Reading.Called → List ℕ
 call_tape c = named (call_kind + c.place) c.name ++ (expression_tape c.argument ++ tape_word close_kind 0 ∷ [])
 
 -- a call was read, after its `<`
-pub record CallRead (text : Bytes) (table : List ℕ) (symbols parts : ℕ) (start : ExpressionCounts) (tape tape' : List ℕ)
+pub record CallRead (text : Bytes) (v : Variables) (start : ExpressionCounts) (tape tape' : List ℕ)
     (c : Reading.Called) (rest : List Tokens.Placed) (s : ExpressionCounts) : Type 0 where
   pub tokens : rest ≡ stream text Tokens.inside s.at
   pub shorter : length rest ≤ length (stream text Tokens.naming start.at)
   pub went : Went text start.at start.words tape s.at s.words tape' (call_tape c)
-  pub progress : c.progress ≡ progress_at text table parts s
-  pub going : Going text table symbols parts s
+  pub progress : c.progress ≡ progress_at text v s
+  pub going : Going text v s
   pub named : CallStands c.name
   pub stands : ExpressionStands c.argument
 
 -- the end of a call's argument: its `>` and the word for it
-abbrev pub CloseGives : Bytes → ExpressionCounts → List ℕ → List ℕ → ParsedExpression → Type 0
-CloseGives text s tape tape' (Stopped fault) = Barred text Tokens.inside Tokens.greater_than s.at fault
-CloseGives text s tape tape' (Done next) =
+abbrev pub CloseGives : Bytes → ExpressionCounts → List ℕ → List ℕ → Result ExpressionCounts Fault → Type 0
+CloseGives text s tape tape' (Err fault) = Barred text Tokens.inside Tokens.greater_than s.at fault
+CloseGives text s tape tape' (Ok next) =
     Taken text Tokens.inside Tokens.greater_than s.at next.at
     × (next ≡ record { at = next.at; words = s.words + 1; items = s.items; passed = s.passed })
     × (tape' ≡ set tape s.words (tape_word close_kind 0))
 
-pub record Closes (text : Bytes) (s : ExpressionCounts) (tape tape' : List ℕ) (r : ParsedExpression) : Type 0 where
+pub record Closes (text : Bytes) (s : ExpressionCounts) (tape tape' : List ℕ) (r : Result ExpressionCounts Fault)
+    : Type 0 where
   pub gives : CloseGives text s tape tape' r

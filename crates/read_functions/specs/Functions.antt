@@ -1,6 +1,7 @@
 -- The functions of a table while they are read.
 use Rattle.std.specs.Prelude.{ℕ, ◌+◌, ◌-◌, ◌≤◌, ◌<◌, ◌≡◌, Bool, true, false}
 use Rattle.std.specs.Prelude.{not, List, [], ◌∷◌, ◌++◌, T, ltb, length, take}
+use Rattle.std.specs.Prelude.{Option, Some, None, Result, Ok, Err, IfOk, IfSome}
 use Rattle.meaning.specs.Choice.{Bytes, Name, pick, both, every}
 use Rattle.meaning.specs.Answers.{over_limit, wrong_name}
 use Rattle.meaning.specs.Names.{is_reserved}
@@ -17,13 +18,12 @@ use Rattle.read_tokens.specs.declared.Token.{Token}
 use Rattle.read_tokens.specs.declared.Token.TheVariants.{Name as NameToken, Symbol, Part, Word, Quoted, Sign, End}
 use Rattle.read_tokens.specs.declared.Token.TheVariants.{Malformed}
 use Rattle.read_tokens.specs.declared.Placed.{Placed}
-use Rattle.read_bookkeeping.specs.Answered.{ReadingOutcome, halted, reached, AgreesBy}
+use Rattle.answers.specs.declared.Fault.{Fault}
+use Rattle.answers.specs.Numbers.{refusal_number}
+use Rattle.read_bookkeeping.specs.Answered.{Agrees}
 use Rattle.read_functions.specs.declared.sentences.SentencesEnd.{SentencesEnd}
 use Rattle.read_functions.specs.declared.functions.Tally.{Tally}
-use Rattle.read_functions.specs.declared.functions.ParsedTable.{ParsedTable}
-use Rattle.read_functions.specs.declared.functions.ParsedTable.TheVariants.{Stopped, Done}
-use Rattle.read_functions.specs.declared.functions.Stage.{Stage}
-use Rattle.read_functions.specs.declared.functions.Stage.TheVariants.{Onward, Over}
+use Rattle.read_functions.specs.declared.functions.Reached.{Reached}
 use Rattle.read_bookkeeping.specs.Tables.{Inside}
 use Rattle.read_bookkeeping.specs.Written.{is_quiet, Ready, Went}
 use Rattle.read_functions.specs.Sentences.{Each, SentenceStands}
@@ -148,38 +148,31 @@ pub record Functioned (text start tape heads : List ℕ) (at words count left : 
   pub short : length text ≤ max_table
   pub room : length text ≤ length tape
 
-abbrev pub table_outcome : ParsedTable → ReadingOutcome Tally
-table_outcome (Stopped fault) = halted fault
-table_outcome (Done n) = reached n
-
 -- how reading stands at a place, from a tape at the start on
-abbrev pub StageIs : Bytes → List ℕ → List ℕ → List ℕ → ℕ → Stage → Type 0
-StageIs text start tape heads at (Onward n) = Functioned text start tape heads at n.words n.functions n.left
-StageIs text start tape heads at (Over p) =
-    AgreesBy table_outcome (FunctionsRead text start tape heads) (functions_of text) p
+abbrev pub TallyIs : Bytes → List ℕ → List ℕ → List ℕ → ℕ → Tally → Type 0
+TallyIs text start tape heads at n = Functioned text start tape heads at n.words n.functions n.left
 
-pub record Underway (text tape heads : List ℕ) (at : ℕ) (stage : Stage) : Type 0 where
+pub record Underway (text tape heads : List ℕ) (at : ℕ) (n : Tally) : Type 0 where
   pub start : List ℕ
-  pub is : StageIs text start tape heads at stage
+  pub is : TallyIs text start tape heads at n
 
-abbrev pub first_stage : Stage
-first_stage = Onward (record { words = 0; functions = 0; left = max_sentences })
+abbrev pub new_tally : Tally
+new_tally = record { words = 0; functions = 0; left = max_sentences }
 
-abbrev pub is_onward : Stage → Bool
-is_onward (Onward n) = true
-is_onward (Over p) = false
+-- what the reading of a text's functions comes to
+abbrev pub FunctionsAgree : Bytes → List ℕ → List ℕ → List ℕ → Result Tally Fault → Type 0
+FunctionsAgree text start tape' heads r = Agrees (FunctionsRead text start tape' heads) (functions_of text) r
 
-abbrev pub outcome_of : Stage → ParsedTable
-outcome_of (Onward n) = Done n
-outcome_of (Over p) = p
+-- a declaration was read, and reading stands at the place reached as it stood before, with less to come; or the text
+-- ends, or a fault stops it, and what the reading of all functions comes to is that
+abbrev pub DeclaresFrom : Bytes → List ℕ → List ℕ → List ℕ → Tally → List ℕ → List ℕ → Result (Option Reached) Fault
+    → Type 0
+DeclaresFrom text start tape heads n tape' heads' (Ok (Some next)) =
+    TallyIs text start tape' heads' next.at next.tally
+DeclaresFrom text start tape heads n tape' heads' (Ok None) = FunctionsAgree text start tape' heads' (Ok n)
+DeclaresFrom text start tape heads n tape' heads' (Err fault) = FunctionsAgree text start tape' heads' (Err fault)
 
--- the declarations that may still come, and the end of the text
-abbrev pub to_come : Stage → ℕ
-to_come (Onward n) = max_functions + 1 - n.functions
-to_come (Over p) = 0
-
--- a declaration was read: reading stands at the place reached as it stood before, and less may come
-pub record Declares (text tape heads : List ℕ) (at : ℕ) (stage : Stage) (tape' heads' : List ℕ) (at' : ℕ)
-    (stage' : Stage) : Type 0 where
-  pub keeps : (start : List ℕ) → StageIs text start tape heads at stage → StageIs text start tape' heads' at' stage'
-  pub falls : is_onward stage ≡ true → to_come stage' < to_come stage
+pub record Declares (text tape heads : List ℕ) (at : ℕ) (n : Tally) (tape' heads' : List ℕ)
+    (r : Result (Option Reached) Fault) : Type 0 where
+  pub keeps : (start : List ℕ) → TallyIs text start tape heads at n → DeclaresFrom text start tape heads n tape' heads' r
+  pub counts : IfOk r (λ o. IfSome o (λ next. next.tally.functions ≡ n.functions + 1))

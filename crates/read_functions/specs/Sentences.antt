@@ -1,5 +1,6 @@
 -- Sentences while they are read: what was read up to a place, and that the readers agree with meaning's Reading.
 use Rattle.std.specs.Prelude.{ℕ, zero, suc, ◌+◌, ◌≤◌, ◌<◌, ◌≡◌, Bool, true, false, List, [], ◌∷◌, T, eqb, length}
+use Rattle.std.specs.Prelude.{Result, Ok, Err}
 use Rattle.meaning.specs.Choice.{Bytes, Name, either, every}
 use Rattle.meaning.specs.Answers.{over_limit}
 use Rattle.meaning.specs.Tree.{Sentence}
@@ -15,12 +16,10 @@ use Rattle.read_tokens.specs.declared.Token.TheVariants.{Name as NameToken, Symb
 use Rattle.read_tokens.specs.declared.Token.TheVariants.{Malformed}
 use Rattle.read_bookkeeping.specs.declared.progress.Progress.{Progress}
 use Rattle.read_functions.specs.declared.sentences.SentencesEnd.{SentencesEnd}
-use Rattle.read_functions.specs.declared.sentences.ParsedSentences.{ParsedSentences}
-use Rattle.read_functions.specs.declared.sentences.ParsedSentences.TheVariants.{Stopped, Done}
 use Rattle.read_functions.specs.declared.sentences.Sequel.{Sequel}
-use Rattle.read_functions.specs.declared.sentences.Sequel.TheVariants.{Ends, Another, Refused}
-use Rattle.answers.specs.Numbers.{answer_number}
-use Rattle.read_bookkeeping.specs.Answered.{ReadingOutcome, halted, reached}
+use Rattle.read_functions.specs.declared.sentences.Sequel.TheVariants.{Ends, Another}
+use Rattle.answers.specs.declared.Fault.{Fault}
+use Rattle.answers.specs.Numbers.{refusal_number}
 use Rattle.read_bookkeeping.specs.Tokened.{unless_word}
 use Rattle.read_bookkeeping.specs.Written.{is_quiet, Went}
 use Rattle.read_functions.specs.Expressions.{ExpressionStands}
@@ -84,23 +83,23 @@ pub record FirstRead (text : Bytes) (left at words : ℕ) (tape tape' : List ℕ
   pub some : 0 < left
 
 -- what comes after a sentence
-abbrev pub SequelGives : Bytes → ℕ → Sequel → Type 0
-SequelGives text from (Ends past) =
+abbrev pub SequelGives : Bytes → ℕ → Result Sequel Fault → Type 0
+SequelGives text from (Ok (Ends past)) =
     ((more : List Tokens.Placed → Parsed (List Sentence)) (s : Sentence)
     → after_sentence more s (stream text Tokens.inside from) ≡ parsed (s ∷ []) (stream text Tokens.outside past))
     × (from < past)
     × (past ≤ length text)
-SequelGives text from (Another place) =
+SequelGives text from (Ok (Another place)) =
     ((more : List Tokens.Placed → Parsed (List Sentence)) (s : Sentence)
     → after_sentence more s (stream text Tokens.inside from)
     ≡ follow (more (stream text Tokens.inside place)) (λ ss rest. parsed (s ∷ ss) rest))
     × (from < place)
     × (place ≤ length text)
-SequelGives text from (Refused fault) =
+SequelGives text from (Err fault) =
     (more : List Tokens.Placed → Parsed (List Sentence)) (s : Sentence)
-    → after_sentence more s (stream text Tokens.inside from) ≡ stopped (answer_number fault.answer) fault.place
+    → after_sentence more s (stream text Tokens.inside from) ≡ stopped (refusal_number fault.refusal) fault.place
 
-pub record Follows (text : Bytes) (from : ℕ) (r : Sequel) : Type 0 where
+pub record Follows (text : Bytes) (from : ℕ) (r : Result Sequel Fault) : Type 0 where
   pub gives : SequelGives text from r
 
 -- the sentences of a function were read, of which so many might come
@@ -110,7 +109,3 @@ pub record SentencesRead (text : Bytes) (limit at words : ℕ) (tape tape' : Lis
   pub went : Went text at words tape p.at p.words tape' (sentences_tape ss)
   pub left : p.left + length ss ≡ limit
   pub stand : Each SentenceStands ss
-
-abbrev pub sentences_outcome : ParsedSentences → ReadingOutcome SentencesEnd
-sentences_outcome (Stopped fault) = halted fault
-sentences_outcome (Done p) = reached p

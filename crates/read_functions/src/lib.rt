@@ -8,15 +8,11 @@ pub mod sentences;
 ghost use Rattle.std.specs.Prelude.{◌≡◌};
 ghost use Rattle.read_functions.specs.Expressions.{fault_at};
 
-use answers::Answer;
-use read_bookkeeping::progress::Fault;
+use answers::{Fault, Refusal};
 
-// `answer` at `place`.
-pub fn fault_at(answer: Answer, place: usize) -> Fault
-    ensures { result ≡ fault_at answer place }
+// `refusal` at `place`.
+pub fn fault_at(refusal: Refusal, place: usize) -> Fault
+    ensures { result ≡ fault_at refusal place }
 {
-    Fault {
-        answer: answer,
-        place: place,
-    }
+    Fault { refusal, place }
 }

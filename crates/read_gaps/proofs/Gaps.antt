@@ -13,8 +13,7 @@ use Rattle.meaning.specs.Choice.{Bytes, both}
 use Rattle.meaning.specs.Classes.{is_blank_byte}
 use Rattle.meaning.specs.Tokens.{Gap, between, opening, commented, starred, ahead, skip, found}
 use Rattle.read_gaps.specs.View.{Plain, Ends, comment_of}
-use Rattle.read_gaps.specs.declared.Comment.{Comment}
-use Rattle.read_gaps.specs.declared.Comment.TheVariants.{Ended, Endless}
+use Rattle.std.specs.Prelude.{Option, None, Some}
 use Rattle.meaning.proofs.Laws.Places.{here, nothing}
 
 -- the byte after the next one
@@ -43,12 +42,6 @@ module _ (text : Bytes) (from at : ℕ) where
   plain-goes h e p =
       record { same = λ slash. p.same slash ∙ rw (add-one, here text at h, e); onward = omega arith }
 
-  -- no byte so far was a `*`, and neither is this one
-  pub plain_still : (any : Bool) → at < length text → (any ≡ false → Plain text from at) → any || eqb (get_or text at 0) 42 ≡ false
-      → Plain text from (at + 1)
-  plain_still true h p e = absurd (true≢false e)
-  plain_still false h p e = plain-goes h e (p refl)
-
   -- a `*` stands inside a comment, with a `/` after it or not
   pub record StarAt (ends : Bool) : Type 0 where
     pub plain : Plain text from at
@@ -68,23 +61,30 @@ module _ (text : Bytes) (from at : ℕ) where
         onward = omega (arith, s.plain.onward);
       }
 
-  pub star-ends : StarAt true → Ends text from (Ended (at + 2))
+  pub star-ends : StarAt true → Ends text from (Some (at + 2))
   star-ends s =
       record {
         same = λ slash. star-passed s slash ∙ star-closes slash (at + 1) (drop (at + 1) text) s.slash ∙ two-on text at between;
         after = omega (arith, s.plain.onward);
       }
 
-  pub endless : length text ≤ at → Plain text from at → Ends text from (Endless at)
+  pub endless : length text ≤ at → at ≤ length text → Plain text from at → Ends text from None
   unfolding skip
-  endless h p = record { same = λ slash. p.same slash ∙ rw (nothing text at h); after = tt }
+  endless h k p = let e : at ≡ length text = omega arith in record { same = λ slash. p.same slash ∙ rw (nothing text at h, e); after = tt }
 
   pub plain-joins : (past : ℕ) → Plain text from at → Plain text at past → Plain text from past
   plain-joins past p q =
       record { same = λ slash. p.same slash ∙ q.same slash; onward = omega arith }
 
-pub plain-starts : (text : Bytes) (from : ℕ) → Plain text from from
-plain-starts text from = record { same = λ slash. refl; onward = omega arith }
+-- no byte so far was a `*`, and neither is this one
+pub plain_still : (text : Bytes) (from passed byte : ℕ) (any : Bool) → from + passed < length text → byte ≡ get_or text (from + passed) 0
+    → (any ≡ false → Plain text from (from + passed))
+    → any || eqb byte 42 ≡ false
+    → Plain text from (from + (passed + 1))
+plain_still text from passed byte true h b p e = absurd (true≢false e)
+plain_still text from passed byte false h b p e =
+    let k : from + (passed + 1) ≡ from + passed + 1 = omega arith in
+    rw k (plain-goes text from (from + passed) h (rw (← b) e) (p refl))
 
 -- BETWEEN TOKENS
 
@@ -108,7 +108,7 @@ module _ (text : Bytes) (at : ℕ) where
         let n : ahead (eqb 42) (drop (suc at) text) ≡ true = subst (λ (k : ℕ). ahead (eqb 42) (drop k text) ≡ true) (add-one at) a in
         rw (here text at h, e, s, n, add-one)
 
-    pub comment-passed : (comment : Comment) → Ends text (at + 2) comment → skip between at (drop at text) ≡ comment_of text at comment
+    pub comment-passed : (comment : Option ℕ) → Ends text (at + 2) comment → skip between at (drop at text) ≡ comment_of text at comment
     comment-passed comment p = slash-passed ∙ comment-opens at (at + 1) (drop (at + 1) text) a ∙ two-on text at (commented at) ∙ p.same at
 
   pub token-found : at < length text → is_blank_byte (get_or text at 0) ≡ false

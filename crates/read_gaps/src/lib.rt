@@ -13,29 +13,18 @@ const COMPARED_AT_ONCE: usize = 16;
 // The bytes of `/*`, and of `*/`.
 const MARK_SIZE: usize = 2;
 
-// Where a comment ends: the place after its `*/`, or the end of the text where it has none.
-#[derive(Drop)]
-enum Comment {
-    Ended(usize),
-    Endless(usize),
+// A comment without an end: the place of its `/*`, and the end of the text.
+#[derive(Clone, Copy)]
+pub struct Unclosed {
+    pub slash: usize,
+    pub past: usize,
 }
 
-// A token begins at a place, or the comment that begins at a place has no end in the text, which ends at another.
-#[derive(Drop)]
-pub enum Skipped {
-    Found(usize),
-    Unclosed(usize, usize),
-}
-
+// Whether the byte at a place is this one.
 fn byte_ahead(text: &[u8], at: usize, byte: u8) -> bool
     ensures { result ≡ Tokens.ahead (eqb byte) (drop at text.now) }
 {
-    if at < text.len() {
-        let next = text[at];
-        byte == next
-    } else {
-        false
-    }
+    text.get(at).is_some_and(|next| *next == byte)
 }
 
 // Whether one of the next bytes is a `*`: no byte ends the loop early, so that all are compared at once.
@@ -44,72 +33,60 @@ fn star_within(text: &[u8], from: usize) -> bool
     ensures { result ≡ false → Plain text.now from (from + compared_at_once) }
 {
     let mut any = false;
-    let mut at = from;
-    while at < from + COMPARED_AT_ONCE {
-        let byte = text[at];
-        any = any | (byte == b'*');
-        at += 1;
+    for byte in &text[from..from + COMPARED_AT_ONCE] {
+        any |= *byte == b'*';
     }
     any
 }
 
-// The place after the bytes without a `*`, so many at a time.
+// The place after the bytes without a `*`, so many at a time. A `for` over chunks would count the place beside them.
 fn plain_past(text: &[u8], from: usize) -> usize
     requires { from ≤ length text.now }
-    ensures { Plain text.now from result }
+    ensures { (result ≤ length text.now) × Plain text.now from result }
 {
     let mut at = from;
-    while COMPARED_AT_ONCE <= text.len() - at {
-        if star_within(text, at) {
-            return at;
-        }
+    while COMPARED_AT_ONCE <= text.len() - at && !star_within(text, at) {
         at += COMPARED_AT_ONCE;
     }
     at
 }
 
-// Passes a comment from the place after its `/*` on.
-fn comment_past(text: &[u8], from: usize) -> Comment
+// The place after a comment's `*/`, from the place after its `/*` on; none where the text ends first.
+fn comment_past(text: &[u8], from: usize) -> Option<usize>
+    requires { from ≤ length text.now }
     ensures { Ends text.now from result }
 {
     let mut at = from;
-    while at < text.len() {
-        let byte = text[at];
-        if byte == b'*' {
-            if byte_ahead(text, at + 1, b'/') {
-                let past = at + MARK_SIZE;
-                return Comment::Ended(past);
-            }
-            at += 1;
-        } else {
+    while let Some(&byte) = text.get(at) {
+        if byte != b'*' {
             at = plain_past(text, at + 1);
+        } else if byte_ahead(text, at + 1, b'/') {
+            return Some(at + MARK_SIZE);
+        } else {
+            at += 1;
         }
     }
-    Comment::Endless(at)
+    None
 }
 
-// Passes blanks and comments.
-pub fn skip(text: &[u8], from: usize) -> Skipped
+// Passes blanks and comments, up to the place where a token begins.
+pub fn skip(text: &[u8], from: usize) -> Result<usize, Unclosed>
     ensures { skipped_of text.now result ≡
         Tokens.skip Tokens.between from (drop from text.now) }
 {
     let mut at = from;
-    while at < text.len() {
-        let byte = text[at];
+    while let Some(&byte) = text.get(at) {
         if is_blank(byte) {
             at += 1;
         } else if byte == b'/' && byte_ahead(text, at + 1, b'*') {
-            match comment_past(text, at + MARK_SIZE) {
-                Comment::Ended(past) => {
-                    at = past;
-                }
-                Comment::Endless(past) => {
-                    return Skipped::Unclosed(at, past);
-                }
-            }
+            let unclosed = Unclosed {
+                slash: at,
+                past: text.len(),
+            };
+            at = comment_past(text, at + MARK_SIZE).ok_or(unclosed)?;
         } else {
-            return Skipped::Found(at);
+            return Ok(at);
         }
     }
-    Skipped::Found(at)
+    Ok(at)
 }

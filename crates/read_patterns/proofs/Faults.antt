@@ -1,65 +1,88 @@
--- Faults of variables, by the tests that the code makes.
-use Prim.Native.Nat.{ℕ, suc, ◌+◌, ◌≤◌}
-use mathlib.Core.Path.{◌≡◌, refl, sym, ◌∙◌}
-use mathlib.Core.Bool.{Bool, true, false, not}
-use mathlib.Core.List.{List, [], ◌∷◌, ◌++◌}
+-- Faults of variables, by the tests that the code makes one after the other.
+use Prim.Native.Nat.{ℕ, suc, ◌-◌}
+use mathlib.Core.Path.{◌≡◌, refl, ◌∙◌}
+use mathlib.Core.Bool.{Bool, true, false, not, true≢false}
 use native.Mathlib.Omega.{arith}
-use lib.Dec.{leb, ltb}
-use lib.ListN.{length, length-append}
-use borrow.Author.Tests.{lt-leb, le-leb, lt-ltb, ltb-true, ltb-false}
-use Rattle.meaning.specs.Choice.{Name, pick, both, either, same_bytes}
+use lib.Dec.{leb, ltb, eqb}
+use lib.ListN.{length}
+use borrow.Author.Tests.{lt-leb, le-leb, ltb-true, ltb-false}
+use Rattle.meaning.specs.Choice.{Bytes, Name, pick, both, either}
 use Rattle.meaning.specs.Answers.{not_allowed_here, over_limit, wrong_pattern_variable}
-use Rattle.meaning.specs.Allowed.{member, added, max_identifier, max_symbols, max_letters}
+use Rattle.meaning.specs.Allowed.{member, max_identifier}
 use Rattle.meaning.specs.Reading.{fault_unless}
-use Rattle.read_bookkeeping.specs.Tables.{position, max_parts}
-use Rattle.read_patterns.specs.Patterns.{pattern_symbol_fault, pattern_part_fault}
+use Rattle.read_tokens.specs.View.{span_text}
+use Rattle.read_tokens.specs.declared.Span.{Span}
+use Rattle.read_bookkeeping.specs.Tables.{Inside, max_parts}
+use Rattle.read_bookkeeping.specs.declared.variables.Variables.{Variables}
+use Rattle.read_bookkeeping.specs.Items.{part_spans, symbol_names, part_names}
+use Rattle.read_bookkeeping.proofs.Declaring.{names-length}
+use Rattle.read_bookkeeping.proofs.Lengths.{part_length}
+use Rattle.read_patterns.specs.Patterns.{pattern_part_fault}
 use Rattle.meaning_accepting.proofs.Reading.Lists.{member-append}
-use Rattle.read_bookkeeping.proofs.Finding.{position-member}
 
--- there is room for a name where its position leaves some
-pub position-low : (x : Name) (ys : List Name) → position x ys ≤ length ys
-unfolding position
-position-low x [] = omega arith
-position-low x (y ∷ ys) = chosen (same_bytes x y) (position-low x ys)
+-- ONE TEST AFTER ANOTHER
+
+-- what a test refuses, those after it don't get to see
+pub refused-here : (wrong : Bool) (number later : ℕ) {answer : ℕ} → eqb answer 0 ≡ false → answer ≡ pick wrong number 0
+    → answer ≡ pick wrong number later
+refused-here true number later n e = e
+refused-here false number later n e = absurd (true≢false (rw e at n))
+
+-- what it lets pass, they see
+pub passed-here : (wrong : Bool) (number : ℕ) {answer later : ℕ} → 0 ≡ pick wrong (suc number) 0 → answer ≡ later
+    → answer ≡ pick wrong (suc number) later
+passed-here true number n e = absurd (omega (arith, n))
+passed-here false number n e = e
+
+-- AN ORDER AND ITS OPPOSITE
+
+not-less : (a b : ℕ) → leb b a ≡ not (ltb a b)
+not-less a b = chosen (ltb a b) refl
   where
-    chosen : (is : Bool) → position x ys ≤ length ys → pick is 0 (suc (position x ys)) ≤ suc (length ys)
-    chosen true h = omega arith
-    chosen false h = omega arith
+    chosen : (is : Bool) → ltb a b ≡ is → leb b a ≡ not is
+    chosen true e = let h = ltb-true a b e in lt-leb b a (omega arith)
+    chosen false e = let h = ltb-false a b e in le-leb b a (omega arith)
 
-pub added-room : (x : Name) (ys : List Name) (n : ℕ) → length ys ≤ n → leb (length (added x ys)) n ≡ ltb (position x ys) n
-added-room x ys n h = chosen (member x ys) (position-member x ys)
+not-within : (a b : ℕ) → ltb b a ≡ not (leb a b)
+not-within a b = chosen (ltb b a) refl
   where
-    chosen : (is : Bool) → ltb (position x ys) (length ys) ≡ is → leb (length (pick is ys (ys ++ x ∷ []))) n ≡ ltb (position x ys) n
-    chosen true e =
-        let k = ltb-true (position x ys) (length ys) e in
-        le-leb (length ys) n h ∙ sym (lt-ltb (position x ys) n (omega arith))
-    chosen false e =
-        let k = ltb-false (position x ys) (length ys) e in
-        let l = position-low x ys in
-        let w : position x ys ≡ length ys = omega arith in
-        rw (length-append ys (x ∷ []), w) (same (ltb (length ys) n) refl)
-      where
-        same : (is : Bool) → ltb (length ys) n ≡ is → leb (length ys + 1) n ≡ ltb (length ys) n
-        same true q = le-leb (length ys + 1) n (let g = ltb-true (length ys) n q in omega arith) ∙ sym q
-        same false q = lt-leb (length ys + 1) n (let g = ltb-false (length ys) n q in omega arith) ∙ sym q
+    chosen : (is : Bool) → ltb b a ≡ is → is ≡ not (leb a b)
+    chosen true e = let h = ltb-true b a e in rw (lt-leb a b (omega arith))
+    chosen false e = let h = ltb-false b a e in rw (le-leb a b (omega arith))
 
--- the tests in the order of their numbers
-pub symbol-fault-is : (letters : ℕ) (symbols parts : List Name) (x : Name) {short few room shared : Bool}
-    → leb (length x) max_identifier ≡ short
-    → leb (letters + 1) max_letters ≡ few
-    → leb (length (added x symbols)) max_symbols ≡ room
-    → member x parts ≡ shared
-    → fault_unless (both short (both few room)) over_limit (fault_unless (not shared) wrong_pattern_variable 0) ≡
-    pattern_symbol_fault letters symbols parts x
-symbol-fault-is letters symbols parts x p q r s = rw (p, q, r, s)
+-- THE DEFINITIONS' TESTS
 
-pub part-fault-is : (symbols parts : List Name) (ending : Bool) (x : Name) {room short symbol shared ends : Bool}
-    → ltb (length parts) max_parts ≡ room
-    → leb (length x) max_identifier ≡ short
-    → member x symbols ≡ symbol
-    → member x parts ≡ shared
-    → ending ≡ ends
-    → fault_unless room not_allowed_here
-    (fault_unless short over_limit (fault_unless (both (not (either symbol shared)) (not ends)) wrong_pattern_variable 0))
-    ≡ pattern_part_fault symbols parts ending x
-part-fault-is symbols parts ending x p q r s t = rw (p, q, member-append x symbols parts, r, s, t)
+parted : (room short symbol part ending : Bool) (a b c : ℕ)
+    → pick (not room) a (pick (not short) b (pick symbol c (pick part c (pick ending c 0))))
+    ≡ fault_unless room a (fault_unless short b (fault_unless (both (not (either symbol part)) (not ending)) c 0))
+parted false short symbol part ending a b c = refl
+parted true false symbol part ending a b c = refl
+parted true true true part ending a b c = refl
+parted true true false true ending a b c = refl
+parted true true false false true a b c = refl
+parted true true false false false a b c = refl
+
+-- THE CODE'S
+
+module _ (text : Bytes) (v : Variables) (x : Span) (i : Inside text x) where
+  abbrev name : Name
+  name = span_text text x
+
+  long : ltb max_identifier (x.past - x.from) ≡ not (leb (length name) max_identifier)
+  long = rw (part_length text x i) (not-within (x.past - x.from) max_identifier)
+
+  -- an e-variable, by its size, and whether it is an s-variable or an e-variable already
+  pub part-checked : {answer : ℕ} (size : ℕ) (shared known ending : Bool)
+      → size ≡ x.past - x.from
+      → shared ≡ member name (symbol_names text v)
+      → known ≡ member name (part_names text v)
+      → answer
+      ≡ pick (leb max_parts (length (part_spans v))) not_allowed_here
+      (pick (ltb max_identifier size) over_limit
+      (pick shared wrong_pattern_variable (pick known wrong_pattern_variable (pick ending wrong_pattern_variable 0))))
+      → answer ≡ pattern_part_fault (symbol_names text v) (part_names text v) ending name
+  part-checked size shared known ending s m k e =
+      e ∙ rw (s, long, not-less (length (part_spans v)) max_parts, m, k, ← (names-length text (part_spans v)))
+      (rw (member-append name (symbol_names text v) (part_names text v))
+      (parted (ltb (length (part_names text v)) max_parts) (leb (length name) max_identifier) (member name (symbol_names text v))
+      (member name (part_names text v)) ending not_allowed_here over_limit wrong_pattern_variable))

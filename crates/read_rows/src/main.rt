@@ -4,6 +4,8 @@
 // the paper.
 #![tactic(auto)]
 
+ghost use Rattle.std.specs.Prelude.{◌≤◌};
+
 use std::io;
 use std::io::Read;
 
@@ -12,11 +14,61 @@ const INPUT_BYTES: u64 = 65536;
 
 const TEXT_BYTES: usize = 65536;
 
-// The text of a line so far, by its length, and the place that is marked in it.
+// The text of a line so far, which are the first `length` bytes of `text`, and the place that is marked in it.
 #[derive(Drop)]
 struct Line {
+    text: [u8; TEXT_BYTES],
     length: usize,
     mark: usize,
+    ghost fits: { length ≤ 65536 },
+}
+
+impl Line {
+    fn new() -> Self {
+        Line {
+            text: [0; TEXT_BYTES],
+            length: 0,
+            mark: 0,
+        }
+    }
+
+    fn clear(&mut self) {
+        self.length = 0;
+        self.mark = 0;
+    }
+
+    fn bytes(&self) -> &[u8] {
+        &self.text[..self.length]
+    }
+
+    // A byte more; a text that is full takes none.
+    fn put(&mut self, byte: u8) {
+        if self.length < TEXT_BYTES {
+            self.text[self.length] = byte;
+            self.length += 1;
+        }
+    }
+
+    // The bytes from the mark on stand there twice.
+    fn double(&mut self) {
+        for from in self.mark..self.length {
+            let byte = self.text[from];
+            self.put(byte);
+        }
+    }
+
+    // What a byte of a line says.
+    fn add(&mut self, byte: u8) {
+        match byte {
+            b'[' => self.mark = self.length,
+            b'+' => self.double(),
+            b'!' => self.length = self.length.saturating_sub(1),
+            b'^' => self.put(b'\n'),
+            b'%' => self.put(b'\r'),
+            b'#' => self.put(b'\t'),
+            _ => self.put(byte),
+        }
+    }
 }
 
 // The tape, in a function of its own, so that no caller's facts hold its elements.
@@ -24,86 +76,26 @@ fn tape_room() -> [u32; 32768] {
     [0; 32768]
 }
 
-fn text_room() -> [u8; TEXT_BYTES] {
-    [0; TEXT_BYTES]
-}
-
-fn row(rt: &impl Print, text: &[u8], length: usize) -> io::Result<()> {
-    if text.len() < length {
-        return Ok(());
-    }
+fn row(rt: &impl Print, text: &[u8]) -> io::Result<()> {
     let mut tape = tape_room();
-    let outcome = read_table::read(&text[0..length], &mut tape);
-    let place = outcome.place;
-    let number = answers::answer_number(outcome.answer);
+    let (number, place) = match read_table::read(text, &mut tape) {
+        Ok(_) => (0, 0),
+        Err(fault) => (u64::from(fault.refusal), fault.place),
+    };
     println!(rt; "{number} {place}")
-}
-
-fn get(text: &[u8; TEXT_BYTES], at: usize) -> u8 {
-    if at < TEXT_BYTES {
-        return text[at];
-    }
-    0
-}
-
-// The length with a byte more; a text that is full takes none.
-fn put(text: &mut [u8; TEXT_BYTES], length: usize, byte: u8) -> usize {
-    if length < TEXT_BYTES {
-        text[length] = byte;
-        return length + 1;
-    }
-    length
-}
-
-// The length once the bytes from the mark on stand there twice.
-fn double(text: &mut [u8; TEXT_BYTES], mark: usize, length: usize) -> usize {
-    let mut to = length;
-    for from in mark..length {
-        let byte = get(text, from);
-        to = put(text, to, byte);
-    }
-    to
-}
-
-// The length after a byte of the line that marks nothing.
-fn length_after(text: &mut [u8; TEXT_BYTES], line: Line, byte: u8) -> usize {
-    let length = line.length;
-    match byte {
-        b'+' => double(text, line.mark, length),
-        b'!' => if 0 < length { length - 1 } else { 0 },
-        b'^' => put(text, length, 10),
-        b'%' => put(text, length, 13),
-        b'#' => put(text, length, 9),
-        _ => put(text, length, byte),
-    }
-}
-
-// The line after a byte; at its end it is read as a table, and the next one begins.
-fn step(rt: &impl Print, text: &mut [u8; TEXT_BYTES], line: Line, byte: u8) -> io::Result<Line> {
-    let length = line.length;
-    if byte == b'\n' {
-        row(rt, text, length)?;
-        return Ok(Line { length: 0, mark: 0 });
-    }
-    if byte == b'[' {
-        return Ok(Line {
-            length: length,
-            mark: length,
-        });
-    }
-    let mark = line.mark;
-    Ok(Line {
-        length: length_after(text, line, byte),
-        mark,
-    })
 }
 
 fn rows<R: Input + Print>(rt: &R) -> io::Result<()> {
     let input = rt.reader().take(INPUT_BYTES);
-    let mut text = text_room();
-    let mut line = Line { length: 0, mark: 0 };
+    let mut line = Line::new();
     for byte in input.bytes() {
-        line = step(rt, &mut text, line, byte?)?;
+        let byte = byte?;
+        if byte == b'\n' {
+            row(rt, line.bytes())?;
+            line.clear();
+        } else {
+            line.add(byte);
+        }
     }
     Ok(())
 }

@@ -229,6 +229,6 @@ module _ {names : List Name} {words : List ℕ} where
     search-ends h = s.rest ∙ rw (drop_of_length-le words h)
 
 -- what the search comes to, for the table whose tape it is
-pub table-found : {words heads : List ℕ} {functions : ℕ} {t : Table} → Holds words heads functions t
-    → unknown_from (head_names words (take functions heads)) words ≡ unknown_in t t
+pub table-found : {words heads : List ℕ} {t : Table} → Holds words heads t
+    → unknown_from (head_names words heads) words ≡ unknown_in t t
 table-found h = rw (h.declared, h.written) (tape-found _ h.stand)

@@ -1,8 +1,7 @@
 -- Strings: how one goes on after each of its characters, and what it comes to.
 use Prim.Native.Nat.{ℕ, ◌+◌, ◌≤◌, ◌<◌}
-use mathlib.Core.Path.{◌≡◌, refl, ◌∙◌}
+use mathlib.Core.Path.{◌≡◌, ◌∙◌}
 use mathlib.Core.List.{[], ◌∷◌, ◌++◌}
-use native.Mathlib.Numerals.{add-one}
 use native.Mathlib.Omega.{arith}
 use lib.ListN.{length, drop, length-append}
 use Rattle.meaning.specs.Choice.{Bytes}
@@ -21,10 +20,6 @@ pub record Quoted-to (text : Bytes) (place at count : ℕ) : Type 0 where
   pub counted : length characters ≡ count
   pub charged : place + 1 + count ≤ at
   pub inside : at ≤ length text
-
-pub quoted-starts : (text : Bytes) (place : ℕ) → place < length text → Quoted-to text place (place + 1) 0
-quoted-starts text place h =
-    record { characters = []; same = rw add-one; counted = refl; charged = omega arith; inside = omega arith }
 
 -- what the string comes to, or how it goes on, after each character
 module _ {text : Bytes} {place at count : ℕ} (q : Quoted-to text place at count) where

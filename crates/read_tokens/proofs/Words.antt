@@ -48,9 +48,11 @@ module _ (text : Bytes) (fits : ℕ → Bool) (from : ℕ) where
       let r = c.running in
       record { same = r.same ∙ rw (here text at c.inside, c.class); onward = r.onward; inside = r.inside }
 
-  pub run_ends : (at : ℕ) → length text ≤ at → Running text fits from at → RunsTo text fits from at
+  pub run_ends : (at : ℕ) → length text ≤ at → at ≤ length text → Running text fits from at → RunsTo text fits from (length text)
   unfolding run
-  run_ends at h r = record { same = r.same ∙ rw (nothing text at h); onward = r.onward; inside = r.inside }
+  run_ends at h k r =
+      let e : at ≡ length text = omega arith in
+      record { same = r.same ∙ rw (e, nothing text (length text) (omega arith)); onward = omega (arith, r.onward); inside = λ i. omega arith }
 
 -- WHAT A WORD IS
 

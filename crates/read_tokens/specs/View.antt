@@ -3,7 +3,6 @@ use Rattle.std.specs.Prelude.{ℕ, suc, ◌+◌, ◌≤◌, ◌<◌, ◌≡◌, 
 use Rattle.std.proofs.Math.Seq.{slice}
 use Rattle.meaning.specs.Choice.{Bytes, pick}
 use Rattle.meaning.specs.Classes.{in_class, alphabetic}
-use Rattle.meaning.specs.Allowed.{word_byte, name_byte}
 use Rattle.meaning.specs.Tokens as Tokens
 use Rattle.meaning.specs.Reading.{variable_of, no_item}
 use Rattle.read_tokens.specs.declared.Mode.{Mode}
@@ -20,9 +19,9 @@ mode_of Naming = Tokens.naming
 
 -- WORDS
 
--- a byte of a function's name, or of a word of a sentence
-abbrev pub run_byte : Bool → ℕ → Bool
-run_byte naming b = pick naming (name_byte b) (word_byte b)
+-- whatever is answered of a byte is what a test says of it
+abbrev pub IsTest : (ℕ → Bool → Type 0) → (ℕ → Bool) → Type 0
+IsTest answers test = (b : ℕ) (answer : Bool) → answers b answer → answer ≡ test b
 
 -- the bytes from a place to another are those that pass, as long as they go
 pub record RunsTo (text : Bytes) (fits : ℕ → Bool) (from past : ℕ) : Type 0 where

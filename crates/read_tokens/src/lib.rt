@@ -3,17 +3,17 @@
 
 pub mod reader;
 
-ghost use Rattle.std.specs.Prelude.{◌≡◌, [], suc, ◌+◌, ◌≤◌, ◌<◌, length, drop};
+ghost use Rattle.std.specs.Prelude.{ℕ, ◌≡◌, [], suc, ◌+◌, ◌-◌, ◌≤◌, ◌<◌, length, drop, Bool};
 ghost use Rattle.std.proofs.Math.Seq.{slice};
 ghost use Rattle.meaning.specs.Classes.{in_class, alphabetic};
 ghost use Rattle.meaning.specs.Tokens as Tokens;
 ghost use Rattle.meaning.specs.Allowed.{word_byte, name_byte};
-ghost use Rattle.read_tokens.specs.View.{mode_of, run_byte, RunsTo, LetterAt, quotation_at, token_of, Sound};
+ghost use Rattle.read_tokens.specs.View.{mode_of, span_text, IsTest, RunsTo, LetterAt, quotation_at, token_of, Sound};
 ghost use Rattle.read_tokens.specs.View.{ShowsToken};
 
 use byte_classes::{is_letter, is_name_byte, is_word_byte};
 use read_characters::{Character, next_character};
-use read_gaps::{Skipped, skip};
+use read_gaps::{Unclosed, skip};
 
 // How a word is read: outside sentences and directly after `<` by the rule of function names, inside a sentence by that
 // of variables.
@@ -29,6 +29,24 @@ pub enum Mode {
 pub struct Span {
     pub from: usize,
     pub past: usize,
+}
+
+impl Span {
+    // How many bytes it has.
+    pub fn len(self) -> usize
+        requires { self.from ≤ self.past }
+        ensures { result ≡ self.past - self.from }
+    {
+        self.past - self.from
+    }
+
+    // Its bytes in the text.
+    pub fn of<'a>(self, text: &'a [u8]) -> &'a [u8]
+        requires { (self.from ≤ self.past) × (self.past ≤ length text.now) }
+        ensures { result.now ≡ span_text text.now self }
+    {
+        &text[self.from..self.past]
+    }
 }
 
 #[derive(Clone, Copy)]
@@ -56,40 +74,24 @@ pub struct Placed {
     pub past: usize,
 }
 
+// Whether a letter stands at a place.
 fn letter_ahead(text: &[u8], at: usize) -> bool
     ensures { result ≡ Tokens.ahead (in_class alphabetic) (drop at text.now) }
 {
-    if at < text.len() {
-        let next = text[at];
-        is_letter(next)
-    } else {
-        false
-    }
+    text.get(at).is_some_and(|next| is_letter(*next))
 }
 
-// Whether a byte goes on a function's name, where `naming`, or else a word of a sentence.
-fn goes_on(byte: u8, naming: bool) -> bool
-    ensures { result ≡ run_byte naming byte }
+// The place after the bytes that pass a test, as long as they do. The loop counts places: one of them is handed back.
+fn run_end<F: Fn(u8) -> bool>(text: &[u8], from: usize, fits: F) -> usize
+    requires { F.IsAlwaysCallable fits × (from ≤ length text.now) }
+    ensures { (test : ℕ → Bool) → IsTest (F.post fits) test → RunsTo text.now test from result }
 {
-    if naming {
-        return is_name_byte(byte);
-    }
-    is_word_byte(byte)
-}
-
-// The place after the bytes that go on, as long as they do.
-fn run_end(text: &[u8], from: usize, naming: bool) -> usize
-    ensures { RunsTo text.now (run_byte naming) from result }
-{
-    let mut at = from;
-    while at < text.len() {
-        let byte = text[at];
-        if !goes_on(byte, naming) {
+    for at in from..text.len() {
+        if !fits(text[at]) {
             return at;
         }
-        at += 1;
     }
-    at
+    text.len()
 }
 
 // A variable is `s` or `e` and an identifier of at least one byte.
@@ -98,35 +100,27 @@ fn word_token(text: &[u8], at: usize, past: usize) -> Token
     ensures { (token_of text.now result at past ≡ Tokens.word (slice at past text.now)) ×
         Sound text.now result at past }
 {
-    let byte = text[at];
-    let identifier = Span {
-        from: at + 1,
-        past: past,
-    };
     if past <= at + 1 {
         return Token::Word;
     }
-    if byte == b's' {
-        return Token::Symbol(identifier);
+    let identifier = Span { from: at + 1, past };
+    match text[at] {
+        b's' => Token::Symbol(identifier),
+        b'e' => Token::Part(identifier),
+        _ => Token::Word,
     }
-    if byte == b'e' {
-        return Token::Part(identifier);
-    }
-    Token::Word
 }
 
 fn name_at(text: &[u8], at: usize) -> Placed
+    requires { LetterAt text.now at }
     ensures { ShowsToken text.now result
         (Tokens.name_token at (Tokens.run name_byte [] at (drop at text.now))).first }
 {
-    let past = run_end(text, at, true);
+    let past = run_end(text, at, is_name_byte);
     Placed {
-        token: Token::Name(Span {
-            from: at,
-            past: past,
-        }),
+        token: Token::Name(Span { from: at, past }),
         place: at,
-        past: past,
+        past,
     }
 }
 
@@ -135,11 +129,11 @@ fn variable_at(text: &[u8], at: usize) -> Placed
     ensures { ShowsToken text.now result
         (Tokens.word_token at (Tokens.run word_byte [] at (drop at text.now))).first }
 {
-    let past = run_end(text, at, false);
+    let past = run_end(text, at, is_word_byte);
     Placed {
         token: word_token(text, at, past),
         place: at,
-        past: past,
+        past,
     }
 }
 
@@ -149,9 +143,8 @@ fn word_at(text: &[u8], at: usize, mode: Mode) -> Placed
         (Tokens.word_at (mode_of mode) at (drop at text.now)).first }
 {
     match mode {
-        Mode::Outside => name_at(text, at),
+        Mode::Outside | Mode::Naming => name_at(text, at),
         Mode::Inside => variable_at(text, at),
-        Mode::Naming => name_at(text, at),
     }
 }
 
@@ -163,6 +156,7 @@ fn quoted_at(text: &[u8], place: usize) -> Placed
 {
     let mut at = place + 1;
     let mut count = 0;
+    // Each character begins where the one before it ended, so no `for` counts them.
     loop {
         match next_character(text, at) {
             Character::Given(_, past) => {
@@ -175,15 +169,15 @@ fn quoted_at(text: &[u8], place: usize) -> Placed
             Character::Closed(past) => {
                 return Placed {
                     token: Token::Quoted(count),
-                    place: place,
-                    past: past,
+                    place,
+                    past,
                 };
             }
             Character::Broken(past) => {
                 return Placed {
                     token: Token::Malformed,
-                    place: place,
-                    past: past,
+                    place,
+                    past,
                 };
             }
         }
@@ -196,18 +190,15 @@ fn bracket_at(text: &[u8], at: usize) -> Placed
     ensures { ShowsToken text.now result (Tokens.bracket_at at (drop (suc at) text.now)
         (Tokens.ahead (in_class alphabetic) (drop (suc at) text.now))).first }
 {
-    if letter_ahead(text, at + 1) {
-        Placed {
-            token: Token::Sign(b'<'),
-            place: at,
-            past: at + 1,
-        }
+    let token = if letter_ahead(text, at + 1) {
+        Token::Sign(b'<')
     } else {
-        Placed {
-            token: Token::Malformed,
-            place: at,
-            past: at + 1,
-        }
+        Token::Malformed
+    };
+    Placed {
+        token,
+        place: at,
+        past: at + 1,
     }
 }
 
@@ -216,18 +207,15 @@ fn token_at(text: &[u8], at: usize, mode: Mode) -> Placed
     ensures { ShowsToken text.now result
         (Tokens.token_at (mode_of mode) at (drop at text.now)).first }
 {
-    if text.len() <= at {
+    let Some(&byte) = text.get(at) else {
         return Placed {
             token: Token::End,
             place: at,
             past: at,
         };
-    }
-    let byte = text[at];
-    if is_letter(byte) {
-        return word_at(text, at, mode);
-    }
+    };
     match byte {
+        _ if is_letter(byte) => word_at(text, at, mode),
         b'\'' => quoted_at(text, at),
         b'<' => bracket_at(text, at),
         _ => Placed {
@@ -244,11 +232,11 @@ pub fn lex(text: &[u8], from: usize, mode: Mode) -> Placed
         (Tokens.lex (mode_of mode) from (drop from text.now)).first }
 {
     match skip(text, from) {
-        Skipped::Found(at) => token_at(text, at, mode),
-        Skipped::Unclosed(slash, past) => Placed {
+        Ok(at) => token_at(text, at, mode),
+        Err(Unclosed { slash, past }) => Placed {
             token: Token::Malformed,
             place: slash,
-            past: past,
+            past,
         },
     }
 }

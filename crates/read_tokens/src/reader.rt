@@ -8,9 +8,11 @@ pub struct Reader<'a> {
     pub at: usize,
 }
 
-// A reader at the start of a text.
-pub fn new<'a>(text: &'a [u8]) -> Reader<'a>
-    ensures { result ≡ reader_at text.entry 0 }
-{
-    Reader { text, at: 0 }
+impl<'a> Reader<'a> {
+    // A reader at the start of a text.
+    pub fn new(text: &'a [u8]) -> Self
+        ensures { result ≡ reader_at text.entry 0 }
+    {
+        Reader { text, at: 0 }
+    }
 }

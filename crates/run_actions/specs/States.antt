@@ -10,6 +10,7 @@ use Rattle.meaning.specs.Machine.{out_cells, Ledger, Stacks, Local, moved_on, wi
 use Rattle.meaning.specs.Runs.{Room, lent}
 use Rattle.meaning.specs.Leaving.{max_frames}
 use Rattle.meaning.specs.Packing.{null_number, whole_number, left_number, right_number, max_stored}
+use Rattle.run_cells.specs.Places.{place}
 use Rattle.run_actions.specs.declared.registers.Registers.{Registers}
 use Rattle.run_actions.specs.declared.registers.Next.{Next}
 use Rattle.run_actions.specs.declared.registers.Next.TheVariants.{Onward, Done, Stopped, Deeper}
@@ -198,9 +199,9 @@ memory_room m =
 abbrev pub moved_to : Registers → ℕ → ℕ → ℕ → Registers
 moved_to g p q r =
     record {
-      p = record { 0 = p };
-      q = record { 0 = q };
-      r = record { 0 = r };
+      p = place p;
+      q = place q;
+      r = place r;
       frame = g.frame;
       at = g.at;
       steps = g.steps;

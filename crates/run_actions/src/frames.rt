@@ -8,7 +8,6 @@ ghost use Rattle.run_actions.specs.States.{crowded_at, with_word, frame_word};
 ghost use Rattle.run_actions.specs.States.{counts_in, counted_in, CountsWithin, begun, calling_from};
 ghost use Rattle.run_actions.specs.States.{length_count, opened_slot, return_slot, selection_slot, stored_slot};
 
-use arithmetic::less;
 use code_numbers::wide::{LEFT, MAX_STORED, NULL, RIGHT, WHOLE};
 use run_cells::places::{InCell, OutCell};
 use run_code_places::CodePlace;
@@ -78,10 +77,7 @@ pub fn crowded(frames: &[usize], frame: usize) -> bool
     requires { frame < max_frames }
     ensures result { result ≡ crowded_at frame frames.now }
 {
-    if FRAMES <= frame + 1 {
-        return false;
-    }
-    frames.len() < COUNTED + FRAME_WORDS * (frame + 2)
+    frame + 1 < FRAMES && frames.len() < COUNTED + FRAME_WORDS * (frame + 2)
 }
 
 // The first words copied to the beginning of others.
@@ -90,11 +86,7 @@ pub fn copy_words(from: &[usize], count: usize, to: &mut [usize])
     requires count_in_bounds_2 { count ≤ length to.old }
     ensures leaves { to.new ≡ take count from.now ++ drop count to.old }
 {
-    let mut i = 0;
-    while i < count {
-        to[i] = from[i];
-        i += 1;
-    }
+    to[..count].copy_from_slice(&from[..count]);
 }
 
 fn word(frames: &[usize], frame: usize, index: usize) -> usize
@@ -121,7 +113,7 @@ pub fn begin_frame(frames: &mut [usize], frame: usize, field: usize, place: usiz
     set_word(frames, frame, NULL, 0);
     set_word(frames, frame, WHOLE, field);
     set_word(frames, frame, LEFT, place);
-    set_word(frames, frame, RIGHT, less(field, place));
+    set_word(frames, frame, RIGHT, field.saturating_sub(place));
     set_word(frames, frame, STORED, stored);
     set_word(frames, frame, OPENED, 0);
 }
@@ -163,7 +155,7 @@ pub fn sequence_start(frames: &[usize], frame: usize, opened: usize) -> OutCell
     requires opened_le_max_opened { opened ≤ max_opened }
     ensures result { result.0 ≡ frame_word frame (frame_words - opened) frames.now }
 {
-    OutCell(word(frames, frame, FRAME_WORDS - opened))
+    OutCell::new(word(frames, frame, FRAME_WORDS - opened))
 }
 
 // A further sequence begins, so many being open.
@@ -196,7 +188,7 @@ pub fn kept_selection(frames: &[usize], frame: usize) -> InCell
     requires { FrameWithin frame frames.now }
     ensures result { result.0 ≡ frame_word frame selection_slot frames.now }
 {
-    InCell(word(frames, frame, SELECTION))
+    InCell::new(word(frames, frame, SELECTION))
 }
 
 // One application more of a function.
@@ -209,8 +201,7 @@ pub fn count_application(frames: &mut [usize], number: usize)
     if COUNTED < number {
         return;
     }
-    let word = number - 1;
-    frames[word] = frames[word] + 1;
+    frames[number - 1] += 1;
 }
 
 // The applications of each function, as they are handed back.
@@ -219,9 +210,8 @@ pub fn copy_counts(frames: &[usize], counts: &mut [u64])
     requires counts_len { length counts.old ≡ max_counted }
     ensures leaves { counts.new ≡ counts_in frames.now }
 {
-    let mut i = 0;
-    while i < COUNTED {
+    // One index for both: the frames lent are more than the counts, and of other integers.
+    for i in 0..COUNTED {
         counts[i] = frames[i] as u64;
-        i += 1;
     }
 }

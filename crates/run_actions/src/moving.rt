@@ -16,106 +16,92 @@ use crate::frames::{
 };
 use crate::registers::{Next, Registers};
 use answers::Ending;
-use arithmetic::less;
-use code_numbers::{FIRST, OPERAND, SECOND, THIRD};
-use run_cells::copying::copy_to_out;
+use code_numbers::words::CodeWord;
+use run_cells::copying::copy_to;
 use run_cells::moving::move_down;
-use run_cells::places::{
-    InCell, OutCell, bytes_between, cell_after, cells_below, cells_from, earlier, out_after, part,
-    put, room_from,
-};
-use run_code_places::wide;
+use run_cells::places::{InCell, OutCell, part, put};
+use run_code_places::{Wrong, wide};
 use run_decoding::Write;
 
-// How many cells a span counts, where they are there.
-#[derive(Drop)]
-pub enum Cells {
-    Count(usize),
-    Wrong,
-}
-
-#[derive(Drop)]
-pub enum Reached {
-    At(InCell),
-    Wrong,
-}
-
 // cells + add - back, if that many cells are there
-fn within(cells: usize, add: usize, back: usize, there: usize) -> Cells
+fn within(cells: usize, add: usize, back: usize, there: usize) -> Result<usize, Wrong>
     requires back_lt_operand { back < operand }
     requires there_bound { there < 2 ^ 63 }
     ensures result { result ≡ within_cells (cells + add - back) there }
 {
     let limit = there + back;
-    if limit < add {
-        return Cells::Wrong;
+    if limit < add || limit - add < cells {
+        return Err(Wrong);
     }
-    if limit - add < cells {
-        return Cells::Wrong;
-    }
-    Cells::Count(less(cells + add, back))
+    Ok((cells + add).saturating_sub(back))
 }
 
 // The cells of a span: a register's length, with an addition, less what stays back.
-fn span_cells(frames: &[usize], frame: usize, span: u32, there: usize) -> Cells
+fn span_cells(frames: &[usize], frame: usize, span: CodeWord, there: usize) -> Result<usize, Wrong>
     requires frame_within { FrameWithin frame frames.now }
     requires held { Held frame frames.now }
     requires there_bound { there < 2 ^ 63 }
     ensures counts { (values : Bytes) →
         let local = local_at frame frames.now values in
-        result ≡ cells_of (length_of (first_in span)) (second_in span) (third_in span) local there }
+        result ≡ cells_of (length_of (first_in span.0)) (second_in span.0) (third_in span.0) local there }
 {
-    let register = wide(span / FIRST % OPERAND);
+    let register = wide(span.first());
     if LENGTH_COUNT <= register {
-        return Cells::Wrong;
+        return Err(Wrong);
     }
-    let add = wide(span / SECOND % OPERAND);
-    let back = wide(span / THIRD % OPERAND);
-    within(length_numbered(frames, frame, register), add, back, there)
+    let cells = length_numbered(frames, frame, register);
+    within(cells, wide(span.second()), wide(span.third()), there)
 }
 
 // The cell that a span's cells lead to from another.
-fn reach(from: InCell, span: u32, frame: usize, input: &[u8], frames: &[usize]) -> Reached
+fn reach(
+    from: InCell,
+    span: CodeWord,
+    frame: usize,
+    input: &[u8],
+    frames: &[usize],
+) -> Result<InCell, Wrong>
     requires from_in_bounds { from.0 ≤ length input.now }
     requires frame_within { FrameWithin frame frames.now }
     requires held { Held frame frames.now }
     ensures reaches { (values : Bytes) →
         let local = local_at frame frames.now values in
         let there = length input.now - from.0 in
-        result ≡ reached_by (cells_of (length_of (first_in span)) (second_in span) (third_in span) local there) from.0 }
+        let cells = cells_of (length_of (first_in span.0)) (second_in span.0) (third_in span.0) local there in
+        result ≡ reached_by cells from.0 }
 {
-    match span_cells(frames, frame, span, cells_from(input, from)) {
-        Cells::Count(n) => Reached::At(cell_after(from, n)),
-        Cells::Wrong => Reached::Wrong,
-    }
+    let cells = span_cells(frames, frame, span, from.room(input))?;
+    Ok(from.after(cells))
 }
 
+// Go and Select are instructions of 000 under their own names; what they share is `reach`.
+
 // Go: p moves on by a span's cells, and q to p.
-pub fn go(g: Registers, span: u32, input: &[u8], frames: &[usize]) -> Next
+pub fn go(g: Registers, span: CodeWord, input: &[u8], frames: &[usize]) -> Next
     requires selection_within { SelectionWithin g.p.0 g.q.0 input.now }
     requires frame_within { FrameWithin g.frame frames.now }
     requires held { Held g.frame frames.now }
     ensures implements { (output «record» values : Bytes) →
         let m = memory input.now output «record» frames.now values in
-        ImplementsAction (span_meant going span) g.at.0 g m result m }
+        ImplementsAction (span_meant going span.0) g.at.0 g m result m }
 {
-    let Reached::At(to) = reach(g.p, span, g.frame, input, frames) else {
-        return Next::Stopped(g, Ending::NoInstruction, 0);
+    let Ok(to) = reach(g.p, span, g.frame, input, frames) else {
+        return g.stopped(Ending::NoInstruction);
     };
     Next::Onward(Registers { p: to, q: to, ..g })
 }
 
 // Select: q moves on by a span's cells.
-pub fn select(g: Registers, span: u32, input: &[u8], frames: &[usize]) -> Next
+pub fn select(g: Registers, span: CodeWord, input: &[u8], frames: &[usize]) -> Next
     requires selection_within { SelectionWithin g.p.0 g.q.0 input.now }
     requires frame_within { FrameWithin g.frame frames.now }
     requires held { Held g.frame frames.now }
     ensures implements { (output «record» values : Bytes) →
         let m = memory input.now output «record» frames.now values in
-        ImplementsAction (span_meant selecting span) g.at.0 g m result m }
+        ImplementsAction (span_meant selecting span.0) g.at.0 g m result m }
 {
-    let Reached::At(to) = reach(g.q, span, g.frame, input, frames) else {
-        return Next::Stopped(g, Ending::NoInstruction, 0);
+    let Ok(to) = reach(g.q, span, g.frame, input, frames) else {
+        return g.stopped(Ending::NoInstruction);
     };
     Next::Onward(Registers { q: to, ..g })
 }
@@ -129,13 +115,16 @@ pub fn write_text(g: Registers, text: &[u8], output: &mut [u8]) -> Next
         let n = memory input output.new «record» frames values in
         Writes action text.now g m → ImplementsAction action g.at.0 g m result n }
 {
-    if room_from(output, g.r) < text.len() {
-        return Next::Stopped(g, Ending::OutFull, 0);
+    if g.r.room(output) < text.len() {
+        return g.stopped(Ending::OutFull);
     }
-    copy_to_out(output, g.r, text);
-    let to = g.q;
-    let end = out_after(g.r, text.len());
-    Next::Onward(Registers { p: to, r: end, ..g })
+    copy_to(output, g.r, text);
+    let end = g.r.after(text.len());
+    Next::Onward(Registers {
+        p: g.q,
+        r: end,
+        ..g
+    })
 }
 
 pub fn write_part(g: Registers, input: &[u8], output: &mut [u8]) -> Next
@@ -156,11 +145,11 @@ pub fn write_byte(g: Registers, byte: u8, output: &mut [u8]) -> Next
         let n = memory input output.new «record» frames values in
         ImplementsAction (out_c byte) g.at.0 g m result n }
 {
-    if room_from(output, g.r) == 0 {
-        return Next::Stopped(g, Ending::OutFull, 0);
+    if g.r.room(output) == 0 {
+        return g.stopped(Ending::OutFull);
     }
     put(output, g.r, byte);
-    let end = out_after(g.r, 1);
+    let end = g.r.after(1);
     Next::Onward(Registers { r: end, ..g })
 }
 
@@ -180,12 +169,10 @@ fn write_value(
         let n = memory input output.new «record» frames.now values.now in
         ImplementsAction (out_v index) g.at.0 g m result n }
 {
-    let frame = g.frame;
-    if stored_values(frames, frame) <= index {
-        return Next::Stopped(g, Ending::NoInstruction, 0);
+    if stored_values(frames, g.frame) <= index {
+        return g.stopped(Ending::NoInstruction);
     }
-    let byte = values[FRAME_VALUES * frame + index];
-    write_byte(g, byte, output)
+    write_byte(g, values[FRAME_VALUES * g.frame + index], output)
 }
 
 // Out, OutC, OutV
@@ -240,7 +227,7 @@ pub fn begin_seq(g: Registers, frames: &mut [usize]) -> Next
         ImplementsAction begin_seq g.at.0 g m result n }
 {
     if !open_sequence(frames, g.frame, g.r) {
-        return Next::Stopped(g, Ending::NoInstruction, 0);
+        return g.stopped(Ending::NoInstruction);
     }
     Next::Onward(g)
 }
@@ -259,18 +246,16 @@ pub fn use_seq(g: Registers, input: &mut [u8], output: &[u8], frames: &mut [usiz
     let frame = g.frame;
     let opened = open_sequences(frames, frame);
     if opened == 0 {
-        return Next::Stopped(g, Ending::NoInstruction, 0);
+        return g.stopped(Ending::NoInstruction);
     }
-    let first = earlier(sequence_start(frames, frame, opened), g.r);
-    if cells_below(g.p) < bytes_between(first, g.r) {
-        return Next::Stopped(g, Ending::InFull, 0);
+    let first = sequence_start(frames, frame, opened).earlier(g.r);
+    if g.p.0 < first.until(g.r) {
+        return g.stopped(Ending::InFull);
     }
     set_open_sequences(frames, frame, opened - 1);
     let start = move_down(input, g.p, output, first, g.r);
-    let end = g.q;
     Next::Onward(Registers {
         p: start,
-        q: end,
         r: first,
         ..g
     })

@@ -1,5 +1,4 @@
--- Laws that this crate's proofs cite.
+-- Laws that this crate's proofs cite, and the law of sums that its contracts' `Total` says.
 pub mod Reading
-pub mod Sizes
 pub mod Summing
 pub mod Writing

@@ -7,6 +7,7 @@ use mathlib.Core.Bool.{Bool, true, false}
 use mathlib.Core.List.{◌++◌, append-nil, append_assoc}
 use mathlib.Core.Option.{some}
 use lib.Dec.{leb}
+use Rattle.std.proofs.Common.{Some, None}
 use lib.ListN.{length, take, drop, get_or, drop_of_length-le}
 use lib.Seq.{drop-cons, take-suc}
 use borrow.Author.Tests.{le-leb, lt-leb, eq-eqb, ne_eqb}
@@ -15,7 +16,6 @@ use Rattle.meaning.specs.Classes.{in_class, digit, within}
 use Rattle.meaning.specs.Numerals.{numeral_from}
 use Rattle.meaning.specs.Angles.{cut_before, cut_after, numeral_in}
 use Rattle.run_angles.specs.Post.{Cut, number_read}
-use Rattle.run_angles.specs.declared.Number.TheVariants.{Of, Nothing}
 
 -- THE FIRST BYTE OF A VALUE
 
@@ -98,36 +98,36 @@ read-on {text} {value} {at} s h low high =
     }
 
 module _ (least most greatest : ℕ) (text : Bytes) where
-  pub too_few : length text < least → Nothing ≡ number_read (numeral_in least most greatest text)
+  pub too_few : length text < least → None ≡ number_read (numeral_in least most greatest text)
   too_few h = rw (lt-leb least (length text) h)
 
-  pub too_many : most < length text → Nothing ≡ number_read (numeral_in least most greatest text)
+  pub too_many : most < length text → None ≡ number_read (numeral_in least most greatest text)
   too_many h = rw (lt-leb (length text) most h, after-false (leb least (length text)))
 
   module _ {value at : ℕ} (s : Reads text value at) where
     module _ (h : at < length text) where
-      read-not : in_class digit (get_or text at 0) ≡ false → Nothing ≡ number_read (numeral_in least most greatest text)
+      read-not : in_class digit (get_or text at 0) ≡ false → None ≡ number_read (numeral_in least most greatest text)
       unfolding every
       read-not e = rw (s.digits, drop-cons text at 0 h, e, after-false (within least most (length text)))
 
-      pub read_under : get_or text at 0 < 48 → Nothing ≡ number_read (numeral_in least most greatest text)
+      pub read_under : get_or text at 0 < 48 → None ≡ number_read (numeral_in least most greatest text)
       read_under b = read-not (rw (lt-leb 48 (get_or text at 0) b))
 
-      pub read-over : 57 < get_or text at 0 → Nothing ≡ number_read (numeral_in least most greatest text)
+      pub read-over : 57 < get_or text at 0 → None ≡ number_read (numeral_in least most greatest text)
       read-over b = read-not (rw (lt-leb (get_or text at 0) 57 b, after-false (leb 48 (get_or text at 0))))
 
     module _ (l : least ≤ length text) (m : length text ≤ most) (h : length text ≤ at) where
-      ended : (b : Bool) → leb value greatest ≡ b → pick b (Of value) Nothing ≡ number_read (numeral_in least most greatest text)
+      ended : (b : Bool) → leb value greatest ≡ b → pick b (Some value) None ≡ number_read (numeral_in least most greatest text)
       unfolding every numeral_from
       ended b e =
           rw (le-leb least (length text) l, le-leb (length text) most m, s.digits, s.number, drop_of_length-le text h, e) (by-test b)
         where
-          by-test : (b : Bool) → pick b (Of value) Nothing ≡ number_read (guard b (some value))
+          by-test : (b : Bool) → pick b (Some value) None ≡ number_read (guard b (some value))
           by-test true = refl
           by-test false = refl
 
-      pub read_past : greatest < value → Nothing ≡ number_read (numeral_in least most greatest text)
+      pub read_past : greatest < value → None ≡ number_read (numeral_in least most greatest text)
       read_past b = ended false (lt-leb value greatest b)
 
-      pub read_done : value ≤ greatest → Of value ≡ number_read (numeral_in least most greatest text)
+      pub read_done : value ≤ greatest → Some value ≡ number_read (numeral_in least most greatest text)
       read_done b = ended true (le-leb value greatest b)

@@ -7,6 +7,7 @@ use Rattle.meaning.specs.Instructions.{Action, Code}
 use Rattle.meaning.specs.Machine.{Stacks, returned, is_declared, perform, process, ran_paid, enter}
 use Rattle.meaning.specs.Runs.{Room, lent}
 use Rattle.meaning.specs.Packing.{Words, functions_at, unpack_actions}
+use Rattle.run_cells.specs.Places.{place}
 use Rattle.run_actions.specs.declared.registers.Registers.{Registers}
 use Rattle.answers.specs.declared.Ending.TheVariants.{NoSentenceFits}
 use Rattle.run_actions.specs.declared.registers.Next.{Next}
@@ -114,7 +115,7 @@ abbrev pub back_in : ℕ → Registers → List ℕ → Registers
 back_in k g frames =
     record {
       p = g.p;
-      q = record { 0 = max g.p.0 (frame_word k selection_slot frames) };
+      q = place (max g.p.0 (frame_word k selection_slot frames));
       r = g.r;
       frame = k;
       at = record { 0 = frame_word k return_slot frames };

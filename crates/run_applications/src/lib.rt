@@ -7,8 +7,7 @@ ghost use Rattle.meaning.specs.Matching.{stored_cell, stored_values};
 ghost use Rattle.meaning.specs.Machine.{is_declared};
 ghost use Rattle.meaning.specs.Instructions.{call as calling};
 ghost use Rattle.meaning.specs.Packing.{store_of, unpack_stores, max_stored};
-ghost use Rattle.byte_classes.specs.Tests.{Answers};
-ghost use Rattle.run_sites.specs.Sites.{cell_meant};
+ghost use Rattle.run_code_places.specs.Options.{option_meant};
 ghost use Rattle.run_applications.specs.Storing.{Stores};
 ghost use Rattle.run_decoding.specs.Decoded.{call_meant};
 ghost use Rattle.run_actions.specs.States.{memory, SelectionWithin, FrameWithin, Paired, crowded_at, CountsWithin};
@@ -16,36 +15,31 @@ ghost use Rattle.run_actions.specs.States.{values_for};
 ghost use Rattle.run_applications.specs.Waiting.{count_in, functions_in, left_by, recovered_by};
 ghost use Rattle.run_applications.specs.Simulation.{SimulatesAction, SimulatesApplication, SimulatesSentence};
 
+pub mod program;
+
+use crate::program::Program;
 use answers::Ending;
-use code_numbers::{FIRST, OPERAND, SECOND, STORE};
+use code_numbers::STORE;
+use code_numbers::words::CodeWord;
 use run_actions::frames::{
     FRAME_VALUES, FRAMES, begin_frame, count_application, keep_caller, kept_selection, return_place,
 };
 use run_actions::registers::{Next, Registers};
-use run_cells::places::{later, part};
-use run_code_places::{CodePlace, wide};
-use run_decoding::Call;
+use run_cells::places::part;
+use run_code_places::{CodePlace, Wrong, wide};
+use run_decoding::{Call, CallKind};
 use run_matching::{Choice, choose};
-use run_sites::{Cell, cell_at};
+use run_sites::cell_at;
 
 pub fn declared(code: &[u32], number: usize) -> bool
     requires { count_in code.now < length code.now }
     ensures result { result ≡ is_declared (functions_in code.now) number }
 {
-    if number == 0 {
-        return false;
-    }
-    number <= wide(code[0])
+    number != 0 && number <= wide(code[0])
 }
 
-// Where the words after a sentence's stores begin.
-#[derive(Drop)]
-pub enum Stored {
-    Before(CodePlace),
-    Wrong,
-}
-
-// The values of a sentence's stores, kept for a frame; Wrong where a store asks for a cell that isn't there.
+// The values of a sentence's stores, kept for a frame, and where the words after them begin; Wrong where a store asks
+// for a cell that isn't there.
 fn store_values(
     code: &[u32],
     stores: CodePlace,
@@ -54,43 +48,36 @@ fn store_values(
     place: usize,
     values: &mut [u8],
     frame: usize,
-) -> Stored
+) -> Result<CodePlace, Wrong>
     requires { values_for frame + count ≤ length values.old }
     ensures stores { let asked = unpack_stores count (drop stores.0 code.now) in
         Stores (values_for frame) count (stores.0 + count) (stored_values asked field.now place)
         values.old values.new result }
 {
     let base = FRAME_VALUES * frame;
+    // A place is counted only once the word before it is there: `stores.0 + i` might not fit.
     let mut at = stores.0;
-    let mut i = 0;
-    while i < count {
+    for i in 0..count {
         if code.len() <= at {
-            return Stored::Wrong;
+            return Err(Wrong);
         }
-        let Cell::Byte(byte) = stored_cell(field, place, code[at]) else {
-            return Stored::Wrong;
+        let Some(byte) = stored_cell(field, place, CodeWord(code[at])) else {
+            return Err(Wrong);
         };
         values[base + i] = byte;
         at += 1;
-        i += 1;
     }
-    Stored::Before(CodePlace(at))
+    Ok(CodePlace(at))
 }
 
 // The cell that a store's word asks for.
-fn stored_cell(field: &[u8], place: usize, word: u32) -> Cell
-    ensures { cell_meant result ≡ stored_cell (store_of word) field.now place }
+fn stored_cell(field: &[u8], place: usize, word: CodeWord) -> Option<u8>
+    ensures { option_meant result ≡ stored_cell (store_of word.0) field.now place }
 {
-    if word % OPERAND == STORE {
-        cell_at(
-            field,
-            place,
-            word / FIRST % OPERAND,
-            word / SECOND % OPERAND,
-        )
-    } else {
-        Cell::Nowhere
+    if word.number() != STORE {
+        return None;
     }
+    cell_at(field, place, word.first(), word.second())
 }
 
 // The actions of the sentence chosen for the field are next, in the frame of the registers.
@@ -114,14 +101,12 @@ fn start_sentence(
         SimulatesSentence code.now allowance place stores.0 stored g m result n }
 {
     let field = part(input, g.p, g.q);
-    let Stored::Before(actions) = store_values(code, stores, stored, field, place, values, g.frame)
-    else {
-        return Next::Stopped(g, Ending::NoInstruction, 0);
+    let Ok(actions) = store_values(code, stores, stored, field, place, values, g.frame) else {
+        return g.stopped(Ending::NoInstruction);
     };
     begin_frame(frames, g.frame, field.len(), place, stored);
-    let none = g.p;
     Next::Onward(Registers {
-        q: none,
+        q: g.p,
         at: actions,
         callee: 0,
         ..g
@@ -145,18 +130,14 @@ fn recover(g: Registers, code: &[u32], number: usize, recoverer: usize) -> Next
 // One application in the frame of the registers: 12, or a step and the sentence chosen for the field.
 pub fn apply(
     g: Registers,
-    bits: &[u8; 256],
-    code: &[u32],
+    program: Program,
     number: usize,
-    allowance: u32,
     input: &[u8],
     frames: &mut [usize],
     values: &mut [u8],
 ) -> Next
-    requires answers { Answers bits.now }
-    requires code_in_bounds { count_in code.now < length code.now }
     requires number_nonzero { 0 < number }
-    requires number_bound { number ≤ count_in code.now }
+    requires number_bound { number ≤ count_in program.code.now }
     requires selection_within { SelectionWithin g.p.0 g.q.0 input.now }
     requires frame_within { FrameWithin g.frame frames.old }
     requires paired { Paired frames.old values.old }
@@ -164,57 +145,56 @@ pub fn apply(
     ensures simulates { (output «record» : Bytes) →
         let m = memory input.now output «record» frames.old values.old in
         let n = memory input.now output «record» frames.new values.new in
-        SimulatesApplication code.now allowance number g m result n }
+        SimulatesApplication program.entry.code.now program.entry.allowance number g m result n }
 {
     let steps = g.steps;
-    let allowed = allowance as usize;
+    let allowed = program.allowance as usize;
     if allowed <= steps {
-        return Next::Stopped(g, Ending::AllowanceSpent, 0);
+        return g.stopped(Ending::AllowanceSpent);
     }
-    let next = steps + 1;
-    let paid = Registers { steps: next, ..g };
+    let paid = Registers {
+        steps: steps + 1,
+        ..g
+    };
     count_application(frames, number);
     let field = part(input, g.p, g.q);
-    match choose(bits, code, CodePlace(wide(code[number])), field) {
-        Choice::Sentence {
-            place,
-            stores,
-            stored,
-        } => start_sentence(paid, code, place, stores, stored, input, frames, values),
-        Choice::Nothing(recoverer) => recover(paid, code, number, recoverer),
-        Choice::Wrong => Next::Stopped(paid, Ending::NoInstruction, 0),
+    let code = program.code;
+    match choose(program.classes, code, CodePlace(wide(code[number])), field) {
+        Ok(
+            Choice::Sentence {
+                place,
+                stores,
+                stored,
+            },
+        ) => start_sentence(paid, code, place, stores, stored, input, frames, values),
+        Ok(Choice::Nothing(recoverer)) => recover(paid, code, number, recoverer),
+        Err(Wrong) => paid.stopped(Ending::NoInstruction),
     }
 }
 
 // A call that adds a frame, which is empty until the application begins; the caller's waits for it.
-fn framed_call(
-    g: Registers,
-    code: &[u32],
-    number: usize,
-    allowance: u32,
-    frames: &mut [usize],
-) -> Next
-    requires number_value { is_declared (functions_in code.now) number ≡ true }
+fn framed_call(g: Registers, program: Program, number: usize, frames: &mut [usize]) -> Next
+    requires number_value { is_declared (functions_in program.code.now) number ≡ true }
     requires frame_within { FrameWithin g.frame frames.old }
     requires frames_value { crowded_at g.frame frames.old ≡ false }
     ensures simulates { (input output «record» values : Bytes) →
         let m = memory input output «record» frames.old values in
         let n = memory input output «record» frames.new values in
-        SimulatesAction code.now allowance (calling number) g.at.0 g m result n }
+        SimulatesAction program.entry.code.now program.entry.allowance (calling number) g.at.0 g m result n }
 {
-    let allowed = allowance as usize;
+    let allowed = program.allowance as usize;
     if allowed <= g.steps {
-        return Next::Stopped(g, Ending::AllowanceSpent, 0);
+        return g.stopped(Ending::AllowanceSpent);
     }
-    let frame = g.frame;
-    if FRAMES <= frame + 1 {
-        return Next::Stopped(g, Ending::FramesFull, 0);
+    let frame = g.frame + 1;
+    if FRAMES <= frame {
+        return g.stopped(Ending::FramesFull);
     }
-    keep_caller(frames, frame, g.at, g.q);
-    begin_frame(frames, frame + 1, 0, 0, 0);
+    keep_caller(frames, g.frame, g.at, g.q);
+    begin_frame(frames, frame, 0, 0, 0);
     Next::Onward(Registers {
-        frame: frame + 1,
-        at: CodePlace(code.len()),
+        frame,
+        at: CodePlace(program.code.len()),
         callee: number,
         ..g
     })
@@ -222,27 +202,26 @@ fn framed_call(
 
 // A call, or a tail call, which takes the caller's frame: its function's application is to begin next, at no place of
 // the code.
-pub fn call(g: Registers, code: &[u32], what: Call, allowance: u32, frames: &mut [usize]) -> Next
-    requires code_in_bounds { count_in code.now < length code.now }
+pub fn call(g: Registers, program: Program, what: Call, frames: &mut [usize]) -> Next
     requires frame_within { FrameWithin g.frame frames.old }
     requires frames_value { crowded_at g.frame frames.old ≡ false }
     ensures simulates { (input output «record» values : Bytes) →
         let m = memory input output «record» frames.old values in
         let n = memory input output «record» frames.new values in
-        SimulatesAction code.now allowance (call_meant what) g.at.0 g m result n }
+        SimulatesAction program.entry.code.now program.entry.allowance (call_meant what) g.at.0 g m result n }
 {
     let number = what.function;
-    if !declared(code, number) {
-        return Next::Stopped(g, Ending::NoInstruction, 0);
+    if !declared(program.code, number) {
+        return g.stopped(Ending::NoInstruction);
     }
-    if what.tail {
-        return Next::Onward(Registers {
-            at: CodePlace(code.len()),
+    match what.kind {
+        CallKind::Framed => framed_call(g, program, number, frames),
+        CallKind::Tail => Next::Onward(Registers {
+            at: CodePlace(program.code.len()),
             callee: number,
             ..g
-        });
+        }),
     }
-    framed_call(g, code, number, allowance, frames)
 }
 
 // The end of an application: the frame below goes on, its q where it was unless p has passed it, or the run is done.
@@ -254,12 +233,10 @@ pub fn leave(g: Registers, frames: &[usize]) -> Next
         return Next::Done(g);
     }
     let frame = g.frame - 1;
-    let back = return_place(frames, frame);
-    let end = later(g.p, kept_selection(frames, frame));
     Next::Onward(Registers {
-        q: end,
-        frame: frame,
-        at: back,
+        q: g.p.later(kept_selection(frames, frame)),
+        frame,
+        at: return_place(frames, frame),
         ..g
     })
 }

@@ -1,9 +1,9 @@
-// Copying bytes onto in, onto out and into the record: one loop for all three.
+// Copying bytes onto in, onto out and into the record.
 ghost use Rattle.std.specs.Prelude.{◌≡◌, ◌+◌, ◌≤◌, ◌<◌, length};
 ghost use Rattle.std.proofs.Math.Seq.{paste};
-ghost use Rattle.run_cells.specs.Copied.{few, half, quarter, FewToCopy, CopiedFew};
+ghost use Rattle.run_cells.specs.Copied.{few, FewToCopy, CopiedFew};
 
-use crate::places::{InCell, OutCell, RecordByte};
+use crate::places::Place;
 
 // Fewer bytes than these are copied and moved without a loop, which for them would cost more than the copying: half as
 // many first, where so many are left, then a quarter, then one.
@@ -13,46 +13,18 @@ pub const HALF: usize = FEW / 2;
 
 pub const QUARTER: usize = HALF / 2;
 
-// Four bytes more, where so many are left; how many are copied. Then two, and one.
-fn copy_four(to: &mut [u8], at: usize, from: &[u8], i: usize) -> usize
-    requires { FewToCopy few to.old at from.now i }
-    ensures { CopiedFew half to.old at from.now i result to.new }
+// N bytes more, where so many are left; how many are copied. As N is a constant, the compiler writes the stores out.
+fn copy_part<const N: usize>(to: &mut [u8], at: usize, from: &[u8], i: usize) -> usize
+    requires { FewToCopy (N + N) to.old at from.now i }
+    ensures { CopiedFew N to.old at from.now i result to.new }
 {
-    if from.len() - i < HALF {
+    if from.len() - i < N {
         return 0;
     }
-    let j = i + 1;
-    let k = j + 1;
-    let l = k + 1;
-    to[at + i] = from[i];
-    to[at + j] = from[j];
-    to[at + k] = from[k];
-    to[at + l] = from[l];
-    HALF
-}
-
-fn copy_two(to: &mut [u8], at: usize, from: &[u8], i: usize) -> usize
-    requires { FewToCopy half to.old at from.now i }
-    ensures { CopiedFew quarter to.old at from.now i result to.new }
-{
-    if from.len() - i < QUARTER {
-        return 0;
+    for k in i..i + N {
+        to[at + k] = from[k];
     }
-    let j = i + 1;
-    to[at + i] = from[i];
-    to[at + j] = from[j];
-    QUARTER
-}
-
-fn copy_one(to: &mut [u8], at: usize, from: &[u8], i: usize) -> usize
-    requires { FewToCopy quarter to.old at from.now i }
-    ensures { CopiedFew 1 to.old at from.now i result to.new }
-{
-    if from.len() - i < 1 {
-        return 0;
-    }
-    to[at + i] = from[i];
-    1
+    N
 }
 
 // Fewer than FEW bytes.
@@ -62,13 +34,12 @@ fn copy_few(to: &mut [u8], at: usize, from: &[u8])
     ensures { to.new ≡
         paste to.old at from.now (length from.now) }
 {
-    let mut i = copy_four(to, at, from, 0);
-    i += copy_two(to, at, from, i);
-    copy_one(to, at, from, i);
+    let mut i = copy_part::<HALF>(to, at, from, 0);
+    i += copy_part::<QUARTER>(to, at, from, i);
+    copy_part::<1>(to, at, from, i);
 }
 
-// Bytes copied over those from a place on. On a stack and in the record the functions below copy, which take their
-// kinds of place.
+// Bytes copied over those from an index on.
 pub fn copy_over(to: &mut [u8], at: usize, from: &[u8])
     requires { at + length from.now ≤ length to.old }
     ensures { to.new ≡
@@ -78,33 +49,14 @@ pub fn copy_over(to: &mut [u8], at: usize, from: &[u8])
         copy_few(to, at, from);
         return;
     }
-    let mut i = 0;
-    while i < from.len() {
-        to[at + i] = from[i];
-        i += 1;
-    }
+    to[at..at + from.len()].copy_from_slice(from);
 }
 
-pub fn copy_to_in(input: &mut [u8], at: InCell, from: &[u8])
-    requires { at.0 + length from.now ≤ length input.old }
-    ensures { input.new ≡
-        paste input.old at.0 from.now (length from.now) }
+// The same from a place of its kind on.
+pub fn copy_to<S: Copy>(cells: &mut [u8], at: Place<S>, from: &[u8])
+    requires { at.0 + length from.now ≤ length cells.old }
+    ensures { cells.new ≡
+        paste cells.old at.0 from.now (length from.now) }
 {
-    copy_over(input, at.0, from);
-}
-
-pub fn copy_to_out(output: &mut [u8], at: OutCell, from: &[u8])
-    requires { at.0 + length from.now ≤ length output.old }
-    ensures { output.new ≡
-        paste output.old at.0 from.now (length from.now) }
-{
-    copy_over(output, at.0, from);
-}
-
-pub fn copy_to_record(record: &mut [u8], at: RecordByte, from: &[u8])
-    requires { at.0 + length from.now ≤ length «record».old }
-    ensures { «record».new ≡
-        paste «record».old at.0 from.now (length from.now) }
-{
-    copy_over(record, at.0, from);
+    copy_over(cells, at.0, from);
 }

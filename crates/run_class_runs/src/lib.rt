@@ -1,48 +1,43 @@
-// How far the bytes of a part are in a class, from its beginning on and up to its end.
+// How far the bytes of a part pass a test, from its beginning on and up to its end.
 #![tactic(auto)]
 
-ghost use Rattle.std.specs.Prelude.{◌≡◌};
+ghost use Rattle.std.specs.Prelude.{ℕ, Bool, ◌≡◌};
 ghost use Rattle.meaning.specs.Choice.{every};
-ghost use Rattle.byte_classes.specs.Tests.{class_test, Answers};
-ghost use Rattle.run_class_runs.specs.Runs.{Leads, Trails};
+ghost use Rattle.meaning.specs.Classes.{in_class};
+ghost use Rattle.byte_classes.specs.Classed.{class_meant};
+ghost use Rattle.run_class_runs.specs.Runs.{IsTest, Leads, Trails};
 
-// How many bytes of a part, from its first on, are in a class.
-pub fn leading(bits: &[u8; 256], part: &[u8], class: u8) -> usize
-    requires { Answers bits.now }
-    ensures { Leads (class_test class) part.now result }
+use byte_classes::{Class, ClassTable};
+
+// How many bytes of a part, from its first on, pass a test.
+pub fn leading<F: Fn(u8) -> bool>(part: &[u8], fits: F) -> usize
+    requires { F.IsAlwaysCallable fits }
+    ensures { (test : ℕ → Bool) → IsTest (F.post fits) test → Leads test part.now result }
 {
-    let mut at = 0;
-    while at < part.len() {
-        if byte_classes::passes(bits, part[at], class) {
-            at += 1;
-        } else {
+    for (at, &byte) in part.iter().enumerate() {
+        if !fits(byte) {
             return at;
         }
     }
-    at
+    part.len()
 }
 
-// After how many bytes of a part the rest of it is in a class.
-pub fn trailing(bits: &[u8; 256], part: &[u8], class: u8) -> usize
-    requires { Answers bits.now }
-    ensures { Trails (class_test class) part.now result }
+// After how many bytes of a part the rest of it passes a test.
+pub fn trailing<F: Fn(u8) -> bool>(part: &[u8], fits: F) -> usize
+    requires { F.IsAlwaysCallable fits }
+    ensures { (test : ℕ → Bool) → IsTest (F.post fits) test → Trails test part.now result }
 {
-    let mut at = part.len();
-    while 0 < at {
-        let last = at - 1;
-        if byte_classes::passes(bits, part[last], class) {
-            at = last;
-        } else {
-            return at;
+    for at in (0..part.len()).rev() {
+        if !fits(part[at]) {
+            return at + 1;
         }
     }
-    at
+    0
 }
 
 // Every byte of a part is in a class.
-pub fn every_in_class(bits: &[u8; 256], part: &[u8], class: u8) -> bool
-    requires { Answers bits.now }
-    ensures { result ≡ every (class_test class) part.now }
+pub fn every_in_class(classes: &ClassTable, part: &[u8], class: Class) -> bool
+    ensures { result ≡ every (in_class (class_meant class)) part.now }
 {
-    part.len() <= leading(bits, part, class)
+    leading(part, |byte| classes.passes(byte, class)) == part.len()
 }

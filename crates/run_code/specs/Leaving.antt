@@ -4,6 +4,7 @@ use Rattle.meaning.specs.Choice.{Bytes}
 use Rattle.meaning.specs.Outcome.{Result}
 use Rattle.meaning.specs.Matching.{Choice}
 use Rattle.meaning.specs.Leaving.{Cells, Leaving, zeros}
+use Rattle.run_cells.specs.Places.{place}
 use Rattle.run_actions.specs.declared.registers.Ran.{Ran}
 use Rattle.run_actions.specs.declared.registers.Registers.{Registers}
 use Rattle.run_actions.specs.declared.registers.Next.{Next}
@@ -56,9 +57,9 @@ cleared_from start bytes = take start bytes ++ zeros (length bytes - start)
 abbrev pub loaded_with : ℕ → ℕ → ℕ → Registers
 loaded_with count text start =
     record {
-      p = record { 0 = count - text };
-      q = record { 0 = count };
-      r = record { 0 = 0 };
+      p = place (count - text);
+      q = place count;
+      r = place 0;
       frame = 0;
       at = record { 0 = 0 };
       steps = 0;

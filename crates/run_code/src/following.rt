@@ -1,7 +1,7 @@
 // A run: the loop over instructions, what comes before it and after it.
-ghost use Rattle.std.specs.Prelude.{◌-◌, ◌≤◌, ◌<◌, ◌^◌, ◌≡◌, length};
+ghost use Rattle.std.specs.Prelude.{◌-◌, ◌≤◌, ◌<◌, ◌^◌, ◌≡◌, length, ltb};
+ghost use Rattle.std.specs.List.{list_all};
 ghost use Rattle.run_actions.specs.declared.registers.Next.TheVariants.{Onward};
-ghost use Rattle.byte_classes.specs.Tests.{Answers};
 ghost use Rattle.meaning.specs.Outcome.{uncounted};
 ghost use Rattle.meaning.specs.Runs.{run_lent};
 ghost use Rattle.meaning.specs.Leaving.{room_of, after_run};
@@ -14,10 +14,12 @@ ghost use Rattle.run_code.specs.Leaving.{cells, Leaves, refused_with, finished_w
 ghost use Rattle.run_code.specs.Leaving.{cleared_from, loaded_with};
 
 use answers::Ending;
+use byte_classes::ClassTable;
 use run_actions::frames::{COUNTED, all_values, all_words, begin_frame, copy_words};
 use run_actions::registers::{Next, Ran, Registers};
-use run_cells::copying::{copy_over, copy_to_in};
-use run_cells::places::{InCell, OutCell, bytes_up_to};
+use run_applications::program::Program;
+use run_cells::copying::{copy_over, copy_to};
+use run_cells::places::{InCell, OutCell};
 use run_code_places::{CodePlace, wide};
 use run_turns::{is_onward, next_of, registers_of, status_of, step};
 
@@ -28,7 +30,7 @@ pub fn refused(ending: Ending, counts: &mut [u64; COUNTED]) -> Ran
 {
     *counts = [0u64; COUNTED];
     Ran {
-        ending: ending,
+        ending,
         function: 0,
         steps: 0,
         text: 0,
@@ -36,44 +38,39 @@ pub fn refused(ending: Ending, counts: &mut [u64; COUNTED]) -> Ran
     }
 }
 
+fn are_below(size: usize, places: &[u32]) -> bool
+    ensures { result ≡ list_all (λ place. ltb place size) places.now }
+{
+    places.iter().all(|place| wide(*place) < size)
+}
+
 // The code has its count word, an entry for each function, and each entry names a place inside the code.
 pub fn sound_table(code: &[u32]) -> bool
     ensures result { result ≡ sound_in code.now }
 {
-    if code.len() == 0 {
+    if code.is_empty() {
         return false;
     }
     let count = wide(code[0]);
-    if code.len() - 1 < count {
+    if code.len() <= count {
         return false;
     }
-    let mut i = 0;
-    while i < count {
-        if code.len() <= wide(code[i + 1]) {
-            return false;
-        }
-        i += 1;
-    }
-    true
+    are_below(code.len(), &code[1..count + 1])
 }
 
 // The run from an answer on, turn by turn, to its end or to where it needs more frames.
 fn follow(
     first: Next,
-    bits: &[u8; 256],
-    code: &[u32],
-    allowance: u32,
+    program: Program,
     input: &mut [u8],
     output: &mut [u8],
     record: &mut [u8],
     frames: &mut [usize],
     values: &mut [u8],
 ) -> Next
-    requires answers { Answers bits.now }
-    requires code_in_bounds { count_in code.now < length code.now }
-    requires next_invariant { NextInvariant allowance first
+    requires next_invariant { NextInvariant program.allowance first
         (memory input.old output.old «record».old frames.old values.old) }
-    ensures simulates { SimulatesUntil IsOver code.now allowance first
+    ensures simulates { SimulatesUntil IsOver program.entry.code.now program.entry.allowance first
         (memory input.old output.old «record».old
         frames.old values.old) result
         (memory input.new output.new «record».new
@@ -81,10 +78,9 @@ fn follow(
 {
     let mut g = registers_of(first);
     let mut status = status_of(first);
+    // A turn of the machine each time: there is nothing to iterate over.
     while is_onward(status) {
-        status = step(
-            &mut g, bits, code, allowance, input, output, record, frames, values,
-        );
+        status = step(&mut g, program, input, output, record, frames, values);
     }
     next_of(status, g)
 }
@@ -92,36 +88,28 @@ fn follow(
 // The run from an answer on to its end, in a room for all frames from where it needs more than are lent.
 fn follow_all(
     first: Next,
-    bits: &[u8; 256],
-    code: &[u32],
-    allowance: u32,
+    program: Program,
     input: &mut [u8],
     output: &mut [u8],
     record: &mut [u8],
     frames: &mut [usize],
     values: &mut [u8],
 ) -> Next
-    requires answers { Answers bits.now }
-    requires code_in_bounds { count_in code.now < length code.now }
-    requires next_invariant { NextInvariant allowance first
+    requires next_invariant { NextInvariant program.allowance first
         (memory input.old output.old «record».old frames.old values.old) }
     requires frames_len { length frames.old ≡ words_for first_frames }
     requires values_len { length values.old ≡ values_for first_frames }
-    ensures simulates { SimulatesUntil HasEnded code.now allowance first
+    ensures simulates { SimulatesUntil HasEnded program.entry.code.now program.entry.allowance first
         (memory input.old output.old «record».old
         frames.old values.old) result
         (memory input.new output.new «record».new
         frames.new values.new) }
 {
-    let last = follow(
-        first, bits, code, allowance, input, output, record, frames, values,
-    );
+    let last = follow(first, program, input, output, record, frames, values);
     let Next::Deeper(g) = last else {
         return last;
     };
-    follow_deeper(
-        g, bits, code, allowance, input, output, record, frames, values,
-    )
+    follow_deeper(g, program, input, output, record, frames, values)
 }
 
 // The run goes on in a room for all frames, which begins as the one that was lent; the counts come back. No run needs
@@ -129,21 +117,18 @@ fn follow_all(
 // function, and only a run that goes so deep has it on its stack.
 fn follow_deeper(
     g: Registers,
-    bits: &[u8; 256],
-    code: &[u32],
-    allowance: u32,
+    program: Program,
     input: &mut [u8],
     output: &mut [u8],
     record: &mut [u8],
     frames: &mut [usize],
     values: &[u8],
 ) -> Next
-    requires answers { Answers bits.now }
-    requires code_in_bounds { count_in code.now < length code.now }
-    requires invariant { Invariant allowance g (memory input.old output.old «record».old frames.old values.now) }
+    requires invariant { Invariant program.allowance g
+        (memory input.old output.old «record».old frames.old values.now) }
     requires frames_len { length frames.old ≡ words_for first_frames }
     requires values_len { length values.now ≡ values_for first_frames }
-    ensures simulates { SimulatesUntil HasEnded code.now allowance (Onward g)
+    ensures simulates { SimulatesUntil HasEnded program.entry.code.now program.entry.allowance (Onward g)
         (memory input.old output.old «record».old
         frames.old values.now) result
         (memory input.new output.new «record».new
@@ -155,9 +140,7 @@ fn follow_deeper(
     copy_over(&mut stored, 0, values);
     let next = follow(
         Next::Onward(g),
-        bits,
-        code,
-        allowance,
+        program,
         input,
         output,
         record,
@@ -168,9 +151,7 @@ fn follow_deeper(
         copy_words(&words, COUNTED, frames);
         return next;
     };
-    let last = follow_deeper(
-        h, bits, code, allowance, input, output, record, &mut words, &stored,
-    );
+    let last = follow_deeper(h, program, input, output, record, &mut words, &stored);
     copy_words(&words, COUNTED, frames);
     last
 }
@@ -179,11 +160,7 @@ pub fn clear_from(cells: &mut [u8], start: usize)
     requires { start ≤ length cells.old }
     ensures leaves { cells.new ≡ cleared_from start cells.old }
 {
-    let mut i = start;
-    while i < cells.len() {
-        cells[i] = 0;
-        i += 1;
-    }
+    cells[start..].fill(0);
 }
 
 // A run that is done gives the text on out. Its steps fit: they are no more than its allowance.
@@ -195,7 +172,7 @@ fn finished(g: Registers) -> Ran
         ending: Ending::Finished,
         function: 0,
         steps: g.steps as u32,
-        text: bytes_up_to(g.r),
+        text: g.r.0,
         emissions: g.emitted,
     }
 }
@@ -205,12 +182,10 @@ fn reported(next: Next) -> Ran
     ensures result { result ≡ reported_of next }
 {
     match next {
-        Next::Onward(g) => finished(g),
-        Next::Done(g) => finished(g),
-        Next::Deeper(g) => finished(g),
+        Next::Onward(g) | Next::Done(g) | Next::Deeper(g) => finished(g),
         Next::Stopped(g, ending, function) => Ran {
-            ending: ending,
-            function: function,
+            ending,
+            function,
             steps: g.steps as u32,
             text: 0,
             emissions: g.emitted,
@@ -224,9 +199,9 @@ fn loaded(cells: usize, text: usize, start: usize) -> Registers
     ensures result { result ≡ loaded_with cells text start }
 {
     Registers {
-        p: InCell(cells - text),
-        q: InCell(cells),
-        r: OutCell(0),
+        p: InCell::new(cells - text),
+        q: InCell::new(cells),
+        r: OutCell::new(0),
         frame: 0,
         at: CodePlace(0),
         steps: 0,
@@ -260,14 +235,17 @@ pub fn run_lent(
         (after_run outcome before) }
 {
     let g = loaded(input.len(), text.len(), start);
-    copy_to_in(input, g.p, text);
+    copy_to(input, g.p, text);
     begin_frame(frames, 0, 0, 0, 0);
-    let bits = byte_classes::class_table();
-    let last = follow_all(
-        Next::Onward(g),
-        &bits,
+    let classes = ClassTable::new();
+    let program = Program {
+        classes: &classes,
         code,
         allowance,
+    };
+    let last = follow_all(
+        Next::Onward(g),
+        program,
         input,
         output,
         record,

@@ -25,10 +25,7 @@ fn foresee(code: &[u32], start: usize, text: &[u8], allowance: u32) -> Seen
     ensures { Foreseen result allowance (choose_from
         (unpack_sentences 0 (drop (get_or code.now start 0) code.now)) text.now) }
 {
-    if text.len() < LONG_TEXT {
-        return Seen::Perhaps;
-    }
-    if allowance == 0 {
+    if text.len() < LONG_TEXT || allowance == 0 {
         return Seen::Perhaps;
     }
     glance(code, CodePlace(wide(code[start])), text)
@@ -54,8 +51,8 @@ fn end_at_once(
     clear_from(input, 0);
     clear_from(output, 0);
     Ran {
-        ending: ending,
-        function: function,
+        ending,
+        function,
         steps: 1,
         text: 0,
         emissions: 0,

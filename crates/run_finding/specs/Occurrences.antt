@@ -1,20 +1,26 @@
 -- Where a string stands in a text, and the bits by which it is looked for.
 use Rattle.std.specs.Prelude.{ℕ, zero, suc, ◌+◌, ◌-◌, ◌*◌, ◌<◌, ◌≡◌, Bool, List, [], ◌∷◌, leb, eqb, length, get_or}
-use Rattle.std.specs.Prelude.{drop}
+use Rattle.std.specs.Prelude.{drop, Option, Some, None, Result, Ok, Err}
 use Rattle.meaning.specs.Choice.{Bytes, pick, both, starts_with}
 use Rattle.meaning.specs.Matching.{Found, found_at, found_none, found_wrong, checked, search}
 use Rattle.byte_classes.specs.Tests.{byte_count}
-use Rattle.run_finding.specs.declared.Occurrence.{Occurrence}
-use Rattle.run_finding.specs.declared.Occurrence.TheVariants.{At, Nowhere, Unsuited}
+use Rattle.run_finding.specs.declared.Unsuited.{Unsuited}
 
 -- the leftmost of so many places from the first on at which the string stands
 abbrev pub leftmost_occurrence : Bytes → Bytes → ℕ → ℕ → Found
 leftmost_occurrence string text places first = search (λ at. checked (starts_with string (drop at text))) places first
 
+-- where a string stands, or that it isn't looked for
+abbrev pub Occurrence : Type 0
+Occurrence = Result (Option ℕ) Unsuited
+
+abbrev pub unsuited : Unsuited
+unsuited = record {}
+
 abbrev pub occurrence_of : Found → Occurrence
-occurrence_of (found_at at) = At at
-occurrence_of found_none = Nowhere
-occurrence_of found_wrong = Unsuited
+occurrence_of (found_at at) = Ok (Some at)
+occurrence_of found_none = Ok None
+occurrence_of found_wrong = Err unsuited
 
 -- how many bits a word has
 abbrev pub word_bits : ℕ
@@ -28,7 +34,7 @@ suited size whole places first =
 abbrev pub occurrence : Bytes → Bytes → ℕ → ℕ → Occurrence
 occurrence string text places first =
     let found = occurrence_of (leftmost_occurrence string text places first) in
-    pick (suited (length string) (length text) places first) found Unsuited
+    pick (suited (length string) (length text) places first) found (Err unsuited)
 
 -- BITS
 

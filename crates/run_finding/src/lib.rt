@@ -1,7 +1,7 @@
 // The leftmost place of a string in a text, in one pass: a bit for each beginning of the string that ends here.
 #![tactic(auto)]
 
-ghost use Rattle.std.specs.Prelude.{ℕ, ◌+◌, ◌≤◌, ◌<◌, ◌-◌, ◌^◌, ◌≡◌, length, get_or, replicate};
+ghost use Rattle.std.specs.Prelude.{ℕ, ◌+◌, ◌≤◌, ◌<◌, ◌-◌, ◌^◌, ◌≡◌, length, get_or, replicate, Ok};
 ghost use Rattle.byte_classes.specs.Tests.{byte_count};
 ghost use Rattle.run_finding.specs.Occurrences.{occurrence, suited, occurrence_of, leftmost_occurrence, Marks};
 ghost use Rattle.run_finding.specs.Occurrences.{word_bits};
@@ -11,14 +11,9 @@ use byte_classes::BYTE_COUNT;
 // How many bits a word has.
 const WORD_BITS: usize = 64;
 
-// Where a string stands; or that it isn't looked for, since it is empty or longer than a word has bits, or the places
-// run past the text.
-#[derive(Drop)]
-pub enum Occurrence {
-    At(usize),
-    Nowhere,
-    Unsuited,
-}
+// A string isn't looked for: it is empty or longer than a word has bits, or the places run past the text.
+#[derive(Clone, Copy)]
+pub struct Unsuited;
 
 // A power of two in a word.
 fn power(exponent: usize) -> u64
@@ -42,12 +37,9 @@ fn mark(string: &[u8], marks: &mut [u64])
     ensures { Marks string.now marks.new }
 {
     let mut unit = power(string.len() - 1);
-    let mut at = 0;
-    while at < string.len() {
-        let byte = string[at] as usize;
-        marks[byte] = marks[byte] + unit;
-        unit = unit / 2;
-        at += 1;
+    for &byte in string {
+        marks[byte as usize] += unit;
+        unit /= 2;
     }
 }
 
@@ -59,55 +51,49 @@ fn pass(
     text: &[u8],
     first: usize,
     places: usize,
-) -> Occurrence
+) -> Option<usize>
     requires marks { Marks string.now marks.now }
     requires in_bounds { 1 ≤ length string.now }
     requires string_len_bound { length string.now ≤ word_bits }
     requires string_in_bounds { first + places + length string.now ≤ length text.now + 1 }
     requires le_places { 1 ≤ places }
-    ensures { result ≡ occurrence_of (leftmost_occurrence string.now text.now places first) }
+    ensures { Ok result ≡ occurrence_of (leftmost_occurrence string.now text.now places first) }
 {
     let most = string.len();
     let top = power(most - 1);
     let last = places + most - 1;
     let mut state = 0u64;
-    let mut read = 0;
-    while read < last {
-        let byte = text[first + read] as usize;
-        read += 1;
-        state = (state / 2 + top) & marks[byte];
+    for read in 0..last {
+        let byte = text[first + read];
+        state = (state / 2 + top) & marks[byte as usize];
         if state % 2 == 1 {
-            return Occurrence::At(first + read - most);
+            return Some(first + (read + 1) - most);
         }
     }
-    Occurrence::Nowhere
+    None
 }
 
 // The leftmost of so many places of a text at which a string stands.
-pub fn find(string: &[u8], text: &[u8], first: usize, places: usize) -> Occurrence
+pub fn find(
+    string: &[u8],
+    text: &[u8],
+    first: usize,
+    places: usize,
+) -> Result<Option<usize>, Unsuited>
     ensures { result ≡ occurrence string.now text.now places first }
 {
     let most = string.len();
-    if most == 0 {
-        return Occurrence::Unsuited;
-    }
-    if WORD_BITS < most {
-        return Occurrence::Unsuited;
-    }
-    if text.len() < most {
-        return Occurrence::Unsuited;
+    if most == 0 || WORD_BITS < most || text.len() < most {
+        return Err(Unsuited);
     }
     let room = text.len() - most + 1;
-    if room < first {
-        return Occurrence::Unsuited;
-    }
-    if room - first < places {
-        return Occurrence::Unsuited;
+    if room < first || room - first < places {
+        return Err(Unsuited);
     }
     if places == 0 {
-        return Occurrence::Nowhere;
+        return Ok(None);
     }
     let mut marks = no_marks();
     mark(string, &mut marks);
-    pass(&marks, string, text, first, places)
+    Ok(pass(&marks, string, text, first, places))
 }

@@ -10,12 +10,13 @@ ghost use Rattle.run_matching.specs.Matched.{tried};
 ghost use Rattle.run_glancing.specs.Glanced.{Told, Where, Drops, Glances};
 
 use code_numbers::wide::SENTENCE_HEAD;
+use code_numbers::words::CodeWord;
 use code_numbers::{
     ACTIONS_END, ENDS, FIRST, FROM_END, GO, LOOK, LOOK_FROM_PLACE, LOOK_FROM_START, MAX_STORED,
-    OPERAND, SECOND, SENTENCES_END, THIRD, WHOLE,
+    SECOND, SENTENCES_END, WHOLE,
 };
 use run_code_places::{CodePlace, wide};
-use run_matching::{Places, places_of};
+use run_matching::places_of;
 
 // A Look at a cell counted from q, without offset and byte.
 const LOOK_FROM_END: u32 = LOOK + FIRST * FROM_END;
@@ -38,16 +39,17 @@ const END_PLACE: usize = GO_PLACE + 1;
 const DROPPING_WORDS: usize = END_PLACE + 1;
 
 // No sentence fits, and no function recovers; the sentence that is chosen passes over its field and ends; or more would
-// have to be looked at.
-#[derive(Drop)]
+// have to be looked at. Three answers, since no caller hands the last one on by `?`.
+#[derive(Clone, Copy)]
 pub enum Seen {
     Nothing,
     Dropped,
     Perhaps,
 }
 
-// A test fails; it doesn't ask for a cell that isn't there; or more would have to be looked at.
-#[derive(Drop)]
+// A test fails; it doesn't ask for a cell that isn't there; or more would have to be looked at. Three answers, as
+// above.
+#[derive(Clone, Copy)]
 pub enum Glimpse {
     Fails,
     Right,
@@ -69,27 +71,20 @@ fn compare_cell(field: &[u8], index: usize, byte: u8) -> Glimpse
 }
 
 // What a Look says at every place up to the last. No place changes what one says that counts from p or from q.
-fn look(field: &[u8], word: u32, last: usize) -> Glimpse
-    ensures { (place : ℕ) → place ≤ last → Told result (check (test_of word) field.now place) }
+fn look(field: &[u8], word: CodeWord, last: usize) -> Glimpse
+    ensures { (place : ℕ) → place ≤ last → Told result (check (test_of word.0) field.now place) }
 {
-    let kind = word % SECOND;
-    let offset = wide(word / SECOND % OPERAND);
-    let byte = (word / THIRD % OPERAND) as u8;
+    let kind = word.0 % SECOND;
+    let offset = wide(word.second());
+    let byte = word.third() as u8;
     if kind == LOOK_FROM_START {
         return compare_cell(field, offset, byte);
     }
-    if kind == LOOK_FROM_END {
-        if offset <= field.len() {
-            return compare_cell(field, field.len() - offset, byte);
-        }
-        return Glimpse::Unknown;
+    if kind == LOOK_FROM_END && offset <= field.len() {
+        return compare_cell(field, field.len() - offset, byte);
     }
-    if kind == LOOK_FROM_PLACE {
-        if last < field.len() {
-            if offset < field.len() - last {
-                return Glimpse::Right;
-            }
-        }
+    if kind == LOOK_FROM_PLACE && last < field.len() && offset < field.len() - last {
+        return Glimpse::Right;
     }
     Glimpse::Unknown
 }
@@ -100,42 +95,38 @@ fn looks_fail(code: &[u32], tests: CodePlace, count: usize, field: &[u8], last: 
     ensures { Where result ((place : ℕ) → place ≤ last →
         check_all (unpack_tests count (drop tests.0 code.now)) field.now place ≡ failed) }
 {
-    let mut at = tests.0;
-    let mut left = count;
-    while 0 < left {
+    for at in tests.0..tests.0.saturating_add(count) {
         if code.len() <= at {
             return false;
         }
-        match look(field, code[at], last) {
+        match look(field, CodeWord(code[at]), last) {
             Glimpse::Fails => return true,
             Glimpse::Unknown => return false,
             Glimpse::Right => {}
         }
-        at += 1;
-        left -= 1;
     }
     false
 }
 
 // A sentence is out by its lengths, or by the Looks that begin its tests.
-fn is_out(code: &[u32], at: CodePlace, word: u32, counts: u32, field: &[u8]) -> bool
+fn is_out(code: &[u32], at: CodePlace, word: CodeWord, counts: CodeWord, field: &[u8]) -> bool
     requires { at.0 < length code.now }
     ensures { Where result
-        (tried (metric_in word) counts (drop (at.0 + sentence_head) code.now) field.now
+        (tried (metric_in word.0) counts.0 (drop (at.0 + sentence_head) code.now) field.now
         ≡ found_none) }
 {
-    let Places::From { first, count } = places_of(word, field.len()) else {
+    let Some(places) = places_of(word, field.len()) else {
         return false;
     };
-    if MAX_STORED < counts / FIRST % OPERAND {
+    if MAX_STORED < counts.first() {
         return false;
     }
-    if count == 0 {
+    if places.count == 0 {
         return true;
     }
     let tests = CodePlace(at.0 + SENTENCE_HEAD);
-    let last = first + (count - 1);
-    looks_fail(code, tests, wide(counts % OPERAND), field, last)
+    let last = places.first + (places.count - 1);
+    looks_fail(code, tests, wide(counts.number()), field, last)
 }
 
 // The sentence `e1 =` stands at a place: it fits every field, passes over it and ends.
@@ -144,22 +135,11 @@ fn drops(code: &[u32], at: CodePlace) -> bool
     ensures { Where result (Drops code.now at.0) }
 {
     let start = at.0;
-    if code.len() - start < DROPPING_WORDS {
-        return false;
-    }
-    if code[start] != ANY_FIELD {
-        return false;
-    }
-    if code[start + 1] != TWO_ACTIONS {
-        return false;
-    }
-    if code[start + GO_PLACE] != GO_WHOLE {
-        return false;
-    }
-    if code[start + END_PLACE] != ACTIONS_END {
-        return false;
-    }
-    true
+    DROPPING_WORDS <= code.len() - start
+        && code[start] == ANY_FIELD
+        && code[start + 1] == TWO_ACTIONS
+        && code[start + GO_PLACE] == GO_WHOLE
+        && code[start + END_PLACE] == ACTIONS_END
 }
 
 // The sentences from a place on, as long as each is out.
@@ -167,10 +147,11 @@ pub fn glance(code: &[u32], entry: CodePlace, field: &[u8]) -> Seen
     ensures { Glances result
         (choose_from (unpack_sentences 0 (drop entry.0 code.now)) field.now) }
 {
+    // Each step begins where the sentence before it ended, so no `for` counts them.
     let mut at = entry.0;
     while at < code.len() {
-        let word = code[at];
-        if word == UNRECOVERED_END {
+        let word = CodeWord(code[at]);
+        if word.0 == UNRECOVERED_END {
             return Seen::Nothing;
         }
         if drops(code, CodePlace(at)) {
@@ -179,11 +160,11 @@ pub fn glance(code: &[u32], entry: CodePlace, field: &[u8]) -> Seen
         if code.len() - at < SENTENCE_HEAD {
             return Seen::Perhaps;
         }
-        let counts = code[at + 1];
+        let counts = CodeWord(code[at + 1]);
         if !is_out(code, CodePlace(at), word, counts, field) {
             return Seen::Perhaps;
         }
-        at += SENTENCE_HEAD + wide(counts / SECOND);
+        at += SENTENCE_HEAD + wide(counts.0 / SECOND);
     }
     Seen::Perhaps
 }

@@ -1,7 +1,6 @@
 // The rows of 01 on their packed code, and runs of words that are no code.
 #![tactic(auto)]
 
-use answers::ending_number;
 use run_actions::registers::Ran;
 use std::io;
 
@@ -140,7 +139,7 @@ fn show(
     let emissions = ran.emissions;
     let function = ran.function;
     let steps = ran.steps;
-    let answer = ending_number(ran.ending);
+    let answer = u64::from(ran.ending);
     let changed = others(input, 0, left);
     let after_text = others(output, text, left);
     let after_emissions = others(record, emissions, 7);

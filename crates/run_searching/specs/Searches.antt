@@ -1,22 +1,22 @@
 -- What a search finds, in the terms of meaning's Matching, and the tests that look for a string.
 use Rattle.std.specs.Prelude.{ℕ, suc, ◌+◌, ◌≤◌, ◌<◌, ◌%◌, ◌≡◌, Bool, true, false, List, [], ◌∷◌, length, take, get_or}
+use Rattle.std.specs.Prelude.{Option, Some, None, Result, Ok, Err}
 use Rattle.meaning.specs.Choice.{Bytes}
 use Rattle.meaning.specs.Instructions.{from_place, Test, look}
-use Rattle.meaning.specs.Matching.{found_at, found_none, found_wrong}
-use Rattle.meaning.specs.Matching.{Found as Finding}
+use Rattle.meaning.specs.Matching.{Found, found_at, found_none, found_wrong}
 use Rattle.meaning.specs.Packing.{Words, code_word, second_in, look_number, from_place_number}
 use Rattle.code_numbers.specs.Numbers.{operand}
-use Rattle.run_finding.specs.declared.Occurrence.{Occurrence}
-use Rattle.run_finding.specs.declared.Occurrence.TheVariants.{At as Standing, Nowhere as NotThere, Unsuited}
-use Rattle.run_searching.specs.declared.Found.{Found}
-use Rattle.run_searching.specs.declared.Found.TheVariants.{At, Nowhere, Wrong}
-use Rattle.run_searching.specs.declared.Template.{Template}
-use Rattle.run_searching.specs.declared.Template.TheVariants.{String, Mixed}
+use Rattle.run_code_places.specs.declared.Wrong.{Wrong}
+use Rattle.run_finding.specs.Occurrences.{Occurrence}
 
-abbrev pub found_meant : Found → Finding
-found_meant (At at) = found_at at
-found_meant Nowhere = found_none
-found_meant Wrong = found_wrong
+-- the place that was found, if there is one
+abbrev pub place_meant : Option ℕ → Found
+place_meant (Some at) = found_at at
+place_meant None = found_none
+
+abbrev pub found_meant : Result (Option ℕ) Wrong → Found
+found_meant (Ok place) = place_meant place
+found_meant (Err refused) = found_wrong
 
 -- so many places from the first on end no further past a field of a length than an operand can say
 abbrev pub PlacesWithin : ℕ → ℕ → ℕ → Type 0
@@ -47,11 +47,10 @@ pub record Spelled (offset : ℕ) (string : Bytes) (tests : List Test) : Type 0 
   pub same : tests ≡ looks offset string
   pub near : offset < operand
 
-abbrev pub Spells : Template → Bytes → List Test → ℕ → Type 0
-Spells (String offset) string tests count = Spelled offset (take count string) tests
-Spells Mixed string tests count = Unit {0}
+abbrev pub Spells : Option ℕ → Bytes → List Test → ℕ → Type 0
+Spells (Some offset) string tests count = Spelled offset (take count string) tests
+Spells None string tests count = Unit {0}
 
-abbrev pub Occurs : Occurrence → Finding → Type 0
-Occurs (Standing at) found = found_at at ≡ found
-Occurs NotThere found = found_none ≡ found
-Occurs Unsuited found = Unit {0}
+abbrev pub Occurs : Occurrence → Found → Type 0
+Occurs (Ok place) found = place_meant place ≡ found
+Occurs (Err refused) found = Unit {0}

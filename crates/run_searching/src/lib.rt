@@ -8,13 +8,14 @@ ghost use Rattle.meaning.specs.Matching.{check_all};
 ghost use Rattle.meaning.specs.Matching.{check as tested, search as searched};
 ghost use Rattle.meaning.specs.Packing.{second_in, third_in, unpack_tests};
 ghost use Rattle.code_numbers.specs.Numbers.{operand};
-ghost use Rattle.byte_classes.specs.Tests.{Answers};
-ghost use Rattle.run_searching.specs.Searches.{found_meant, PlacesWithin, LooksOnce, Spells, Occurs};
+ghost use Rattle.run_searching.specs.Searches.{found_meant, place_meant, PlacesWithin, LooksOnce, Spells, Occurs};
 
-use code_numbers::{LOOK_FROM_PLACE, OPERAND, SECOND, THIRD};
-use run_checking::{Checked, check_all};
-use run_code_places::{CodePlace, wide};
-use run_finding::Occurrence;
+use byte_classes::ClassTable;
+use code_numbers::words::CodeWord;
+use code_numbers::{LOOK_FROM_PLACE, SECOND};
+use run_checking::check_all;
+use run_code_places::{CodePlace, Wrong, wide};
+use run_finding::{Unsuited, find};
 
 // The most characters that a pattern has, and so a string that is looked for.
 const MAX_STRING: usize = 64;
@@ -22,49 +23,27 @@ const MAX_STRING: usize = 64;
 // For fewer places the tables of one pass over the field would cost more than they save.
 const FEW_PLACES: usize = 64;
 
-// Where the middle template lies; without one, place 0.
-#[derive(Drop)]
-pub enum Found {
-    At(usize),
-    Nowhere,
-    Wrong,
-}
-
-// Tests look for a string from so many cells after the place on, or for more than that.
-#[derive(Drop)]
-enum Template {
-    String(usize),
-    Mixed,
-}
-
-// The leftmost of so many places at which all tests pass.
+// The leftmost of so many places at which all tests pass; without a middle template, place 0.
 pub fn search(
-    bits: &[u8; 256],
+    classes: &ClassTable,
     code: &[u32],
     tests: CodePlace,
     count: usize,
     field: &[u8],
     first: usize,
     places: usize,
-) -> Found
-    requires answers { Answers bits.now }
+) -> Result<Option<usize>, Wrong>
     requires places_within { PlacesWithin first places (length field.now) }
     ensures { found_meant result ≡
         searched (check_all (unpack_tests count (drop tests.0 code.now)) field.now)
         places first }
 {
-    let mut place = first;
-    let mut left = places;
-    while 0 < left {
-        match check_all(bits, code, tests, count, field, place) {
-            Checked::Passed => return Found::At(place),
-            Checked::Wrong => return Found::Wrong,
-            Checked::Failed => {}
+    for place in first..first + places {
+        if check_all(classes, code, tests, count, field, place)? {
+            return Ok(Some(place));
         }
-        place += 1;
-        left -= 1;
     }
-    Found::Nowhere
+    Ok(None)
 }
 
 // Whether a Look from the middle template's place is the only test, the commonest that a middle template has, and finds
@@ -75,72 +54,49 @@ pub fn looks_once(code: &[u32], tests: CodePlace, count: usize, past: usize, who
     ensures { LooksOnce result code.now tests.0 count past whole }
 {
     let at = tests.0;
-    if count != 1 {
+    if count != 1 || code.len() <= at {
         return false;
     }
-    if code.len() <= at {
-        return false;
-    }
-    let word = code[at];
-    if word % SECOND != LOOK_FROM_PLACE {
-        return false;
-    }
-    let offset = wide(word / SECOND % OPERAND);
-    if whole < past + offset {
-        return false;
-    }
-    true
+    let word = CodeWord(code[at]);
+    word.0 % SECOND == LOOK_FROM_PLACE && past + wide(word.second()) <= whole
 }
 
-// The leftmost of so many places so far before a byte: a Look from the middle template's place is the only test.
-pub fn scan(field: &[u8], word: u32, first: usize, places: usize) -> Found
-    requires { first + places + second_in word ≤ length field.now }
-    ensures { found_meant result ≡
-        searched (tested (looking (from_place (second_in word)) (third_in word)) field.now) places first }
+// The leftmost of so many places so far before a byte: a Look from the middle template's place is the only test. It is
+// not put into the loop of a run, where the place would be kept in memory and not in a register.
+#[inline(never)]
+pub fn scan(field: &[u8], word: CodeWord, first: usize, places: usize) -> Option<usize>
+    requires { first + places + second_in word.0 ≤ length field.now }
+    ensures { place_meant result ≡
+        searched (tested (looking (from_place (second_in word.0)) (third_in word.0)) field.now) places first }
 {
-    let offset = wide(word / SECOND % OPERAND);
-    let byte = (word / THIRD % OPERAND) as u8;
-    let mut here = first;
-    let mut left = places;
-    while 0 < left {
-        let index = here + offset;
-        if field[index] == byte {
-            return Found::At(here);
+    let offset = wide(word.second());
+    let byte = word.third() as u8;
+    for place in first..first + places {
+        if field[place + offset] == byte {
+            return Some(place);
         }
-        here += 1;
-        left -= 1;
     }
-    Found::Nowhere
+    None
 }
 
-// Whether tests look for a string, each at the cell after the last one's, and from which cell on.
-fn string_of(code: &[u32], tests: CodePlace, count: usize, string: &mut [u8]) -> Template
+// From which cell after the place on tests look for a string, each at the cell after the last one's; or none, where
+// they look for more than that.
+fn string_of(code: &[u32], tests: CodePlace, count: usize, string: &mut [u8]) -> Option<usize>
     ensures { Spells result string.new (unpack_tests count (drop tests.0 code.now)) count }
 {
     let at = tests.0;
-    if code.len() <= at {
-        return Template::Mixed;
+    if code.len() <= at || code.len() - at < count || string.len() < count {
+        return None;
     }
-    if code.len() - at < count {
-        return Template::Mixed;
-    }
-    if string.len() < count {
-        return Template::Mixed;
-    }
-    let offset = wide(code[at] / SECOND % OPERAND);
-    let mut size = 0;
-    while size < count {
-        let word = code[at + size];
-        if word % SECOND != LOOK_FROM_PLACE {
-            return Template::Mixed;
+    let offset = wide(CodeWord(code[at]).second());
+    for size in 0..count {
+        let word = CodeWord(code[at + size]);
+        if word.0 % SECOND != LOOK_FROM_PLACE || wide(word.second()) != offset + size {
+            return None;
         }
-        if wide(word / SECOND % OPERAND) != offset + size {
-            return Template::Mixed;
-        }
-        string[size] = (word / THIRD % OPERAND) as u8;
-        size += 1;
+        string[size] = word.third() as u8;
     }
-    Template::String(offset)
+    Some(offset)
 }
 
 fn no_string() -> [u8; MAX_STRING] {
@@ -155,52 +111,43 @@ fn find_string(
     field: &[u8],
     first: usize,
     places: usize,
-) -> Occurrence
+) -> Result<Option<usize>, Unsuited>
     requires { PlacesWithin first places (length field.now) }
     ensures { Occurs result
         (searched (check_all (unpack_tests count (drop tests.0 code.now)) field.now)
         places first) }
 {
-    if places < FEW_PLACES {
-        return Occurrence::Unsuited;
+    if places < FEW_PLACES || MAX_STRING < count {
+        return Err(Unsuited);
     }
     let mut string = no_string();
-    let Template::String(offset) = string_of(code, tests, count, &mut string) else {
-        return Occurrence::Unsuited;
-    };
-    if MAX_STRING < count {
-        return Occurrence::Unsuited;
-    }
-    match run_finding::find(&string[0..count], field, first + offset, places) {
-        Occurrence::At(place) => Occurrence::At(place - offset),
-        Occurrence::Nowhere => Occurrence::Nowhere,
-        Occurrence::Unsuited => Occurrence::Unsuited,
+    let offset = string_of(code, tests, count, &mut string).ok_or(Unsuited)?;
+    match find(&string[..count], field, first + offset, places)? {
+        Some(place) => Ok(Some(place - offset)),
+        None => Ok(None),
     }
 }
 
 // The same search, where one Look decides by scanning for its byte, and where a string does by looking for that.
 pub fn find_among(
-    bits: &[u8; 256],
+    classes: &ClassTable,
     code: &[u32],
     tests: CodePlace,
     count: usize,
     field: &[u8],
     first: usize,
     places: usize,
-) -> Found
-    requires answers { Answers bits.now }
+) -> Result<Option<usize>, Wrong>
     requires places_within { PlacesWithin first places (length field.now) }
     ensures { found_meant result ≡
         searched (check_all (unpack_tests count (drop tests.0 code.now)) field.now)
         places first }
 {
     if looks_once(code, tests, count, first + places, field.len()) {
-        let at = tests.0;
-        return scan(field, code[at], first, places);
+        return Ok(scan(field, CodeWord(code[tests.0]), first, places));
     }
     match find_string(code, tests, count, field, first, places) {
-        Occurrence::At(place) => Found::At(place),
-        Occurrence::Nowhere => Found::Nowhere,
-        Occurrence::Unsuited => search(bits, code, tests, count, field, first, places),
+        Ok(found) => Ok(found),
+        Err(Unsuited) => search(classes, code, tests, count, field, first, places),
     }
 }

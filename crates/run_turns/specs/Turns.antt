@@ -2,8 +2,10 @@
 -- simulate.
 use Rattle.std.specs.Prelude.{ℕ, suc, ◌+◌, ◌≤◌, ◌<◌, Bool, true, false, ◌≡◌, List, length}
 use Rattle.meaning.specs.Choice.{Bytes}
-use Rattle.meaning.specs.Packing.{Words, use_seq_number}
+use Rattle.meaning.specs.Packing.{Words, go_number, select_number, use_seq_number}
 use Rattle.run_decoding.specs.Decoded.{Numbered}
+use Rattle.run_turns.specs.declared.SpanKind.{SpanKind}
+use Rattle.run_turns.specs.declared.SpanKind.TheVariants.{Go, Select}
 use Rattle.run_actions.specs.declared.registers.Registers.{Registers}
 use Rattle.run_actions.specs.declared.registers.Next.{Next}
 use Rattle.run_actions.specs.declared.registers.Next.TheVariants.{Onward, Done, Stopped, Deeper}
@@ -12,6 +14,11 @@ use Rattle.run_actions.specs.declared.registers.Status.TheVariants as status
 use Rattle.run_actions.specs.States.{Memory, memory, memory_room}
 use Rattle.run_applications.specs.Waiting.{outcome_from, measure}
 use Rattle.run_applications.specs.Simulation.{Invariant, Simulates, SimulatesBelow}
+
+-- the numbers of the instructions that lead on by a span's cells
+abbrev pub span_number : SpanKind → ℕ
+span_number Go = go_number
+span_number Select = select_number
 
 -- AN ANSWER'S PARTS
 

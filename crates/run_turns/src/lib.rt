@@ -2,13 +2,11 @@
 #![tactic(auto)]
 
 ghost use Rattle.std.specs.Prelude.{ℕ, ◌≤◌, ◌<◌, ◌≡◌, length};
-ghost use Rattle.meaning.specs.Choice.{Bytes, pick};
-ghost use Rattle.meaning.specs.Packing.{go_number, select_number};
-ghost use Rattle.byte_classes.specs.Tests.{Answers};
+ghost use Rattle.meaning.specs.Choice.{Bytes};
 ghost use Rattle.run_actions.specs.States.{memory, SelectionWithin, FrameWithin, Held, Paired, CountsWithin};
-ghost use Rattle.run_applications.specs.Waiting.{count_in};
 ghost use Rattle.run_applications.specs.Simulation.{Invariant, registers_in};
-ghost use Rattle.run_turns.specs.Turns.{status_in, next_of, is_onward, kept_of, ActingInvariant, SomeActingInvariant};
+ghost use Rattle.run_turns.specs.Turns.{span_number, status_in, next_of, is_onward, kept_of};
+ghost use Rattle.run_turns.specs.Turns.{ActingInvariant, SomeActingInvariant};
 ghost use Rattle.run_turns.specs.Turns.{SimulatesEntry, SimulatesTry, SimulatesUse};
 ghost use Rattle.run_turns.specs.Turns.{SimulatesInstruction, SimulatesTurn};
 
@@ -19,22 +17,19 @@ use run_actions::emitting::emit;
 use run_actions::frames::crowded;
 use run_actions::moving::{begin_seq, go, open_sequence, select, use_seq, write};
 use run_actions::registers::{Next, Registers, Status};
+use run_applications::program::Program;
 use run_applications::{apply, call, declared, leave};
 use run_code_places::CodePlace;
-use run_decoding::{Found, Instruction, decode, find_word};
+use run_decoding::{Instruction, decode, find_word};
 
 // The application that is to begin, if there is one; after it actions come, or another application.
 fn enter(
     g: Registers,
-    bits: &[u8; 256],
-    code: &[u32],
-    allowance: u32,
+    program: Program,
     input: &[u8],
     frames: &mut [usize],
     values: &mut [u8],
 ) -> Next
-    requires answers { Answers bits.now }
-    requires code_in_bounds { count_in code.now < length code.now }
     requires selection_within { SelectionWithin g.p.0 g.q.0 input.now }
     requires frame_within { FrameWithin g.frame frames.old }
     requires paired { Paired frames.old values.old }
@@ -42,13 +37,14 @@ fn enter(
     ensures simulates { (output «record» : Bytes) →
         let m = memory input.now output «record» frames.old values.old in
         let n = memory input.now output «record» frames.new values.new in
-        Invariant allowance g m → SimulatesEntry code.now allowance g m result n }
+        Invariant program.entry.allowance g m →
+        SimulatesEntry program.entry.code.now program.entry.allowance g m result n }
 {
     let number = g.callee;
-    if !declared(code, number) {
+    if !declared(program.code, number) {
         return Next::Onward(Registers { callee: 0, ..g });
     }
-    apply(g, bits, code, number, allowance, input, frames, values)
+    apply(g, program, number, input, frames, values)
 }
 
 // The registers after an action that was tried, those before it where it can't be done.
@@ -57,21 +53,31 @@ fn kept(next: Next, g: Registers) -> Registers
 {
     match next {
         Next::Onward(h) => h,
-        Next::Done(_) => g,
-        Next::Stopped(_, _, _) => g,
-        Next::Deeper(_) => g,
+        _ => g,
     }
 }
 
-// The number of Go, or of Select.
-fn span_number(goes: bool) -> u32
-    ensures result { result ≡ pick goes go_number select_number }
-{
-    if goes { GO } else { SELECT }
+// The instructions that lead on by a span's cells: Go p, and Select q.
+#[derive(Clone, Copy)]
+enum SpanKind {
+    Go,
+    Select,
 }
 
-// Go, or else Select, where it comes next.
-fn try_span(g: Registers, goes: bool, code: &[u32], input: &[u8], frames: &[usize]) -> Registers
+impl SpanKind {
+    // The number that the instruction has in a word.
+    fn number(self) -> u32
+        ensures { result ≡ span_number self }
+    {
+        match self {
+            SpanKind::Go => GO,
+            SpanKind::Select => SELECT,
+        }
+    }
+}
+
+// Go, or Select, where it comes next.
+fn try_span(g: Registers, kind: SpanKind, code: &[u32], input: &[u8], frames: &[usize]) -> Registers
     requires selection_within { SelectionWithin g.p.0 g.q.0 input.now }
     requires frame_within { FrameWithin g.frame frames.now }
     requires held { Held g.frame frames.now }
@@ -79,14 +85,14 @@ fn try_span(g: Registers, goes: bool, code: &[u32], input: &[u8], frames: &[usiz
         let m = memory input.now output «record» frames.now values in
         ActingInvariant allowance g m → SimulatesTry code.now allowance g m result m }
 {
-    let Found::Word(word, next) = find_word(code, g.at, span_number(goes)) else {
+    let Some((word, next)) = find_word(code, g.at, kind.number()) else {
         return g;
     };
     let h = Registers { at: next, ..g };
-    if goes {
-        return kept(go(h, word, input, frames), g);
+    match kind {
+        SpanKind::Go => kept(go(h, word, input, frames), g),
+        SpanKind::Select => kept(select(h, word, input, frames), g),
     }
-    kept(select(h, word, input, frames), g)
 }
 
 // BeginSeq, where it comes next.
@@ -98,7 +104,7 @@ fn try_begin(g: Registers, code: &[u32], frames: &mut [usize]) -> Registers
         let n = memory input output «record» frames.new values in
         ActingInvariant allowance g m → SimulatesTry code.now allowance g m result n }
 {
-    let Found::Word(_, next) = find_word(code, g.at, BEGIN_SEQ) else {
+    let Some((_, next)) = find_word(code, g.at, BEGIN_SEQ) else {
         return g;
     };
     if open_sequence(frames, g.frame, g.r) {
@@ -124,6 +130,7 @@ fn try_writes(
         ActingInvariant allowance g m → SimulatesTry code.now allowance g m result n }
 {
     let mut h = g;
+    // A write a turn, from registers to registers: there is nothing to iterate over.
     loop {
         let at = h.at.0;
         if code.len() <= at {
@@ -160,7 +167,7 @@ fn try_use(
         let n = memory input.new output.now «record» frames.new values in
         ActingInvariant allowance g m → SimulatesUse code.now allowance g m result n }
 {
-    let Found::Word(_, next) = find_word(code, g.at, USE_SEQ) else {
+    let Some((_, next)) = find_word(code, g.at, USE_SEQ) else {
         return Next::Onward(g);
     };
     let h = Registers { at: next, ..g };
@@ -170,26 +177,25 @@ fn try_use(
 // One instruction, whatever it is, but UseSeq, and a call for whose frame there is no room: these are left for later.
 fn act(
     g: Registers,
-    code: &[u32],
-    allowance: u32,
+    program: Program,
     input: &[u8],
     output: &mut [u8],
     record: &mut [u8],
     frames: &mut [usize],
     values: &[u8],
 ) -> Next
-    requires code_in_bounds { count_in code.now < length code.now }
-    requires acting_invariant { ActingInvariant allowance g
+    requires acting_invariant { ActingInvariant program.allowance g
         (memory input.now output.old «record».old frames.old values.now) }
-    ensures simulates { SimulatesInstruction code.now allowance g
+    ensures simulates { SimulatesInstruction program.entry.code.now program.entry.allowance g
         (memory input.now output.old «record».old
         frames.old values.now) result
         (memory input.now output.new «record».new
         frames.new values.now) }
 {
+    let code = program.code;
     let at = g.at.0;
     if code.len() <= at {
-        return Next::Stopped(g, Ending::NoInstruction, 0);
+        return g.stopped(Ending::NoInstruction);
     }
     let h = Registers {
         at: CodePlace(at + 1),
@@ -205,13 +211,13 @@ fn act(
             if crowded(frames, g.frame) {
                 Next::Deeper(g)
             } else {
-                call(h, code, what, allowance, frames)
+                call(h, program, what, frames)
             }
         }
         Instruction::Emit(length) => emit(h, code, length, input, record),
-        Instruction::Compute(subtract) => compute(h, subtract, input, output),
+        Instruction::Compute(operation) => compute(h, operation, input, output),
         Instruction::End => leave(h, frames),
-        Instruction::Unknown => Next::Stopped(h, Ending::NoInstruction, 0),
+        Instruction::Unknown => h.stopped(Ending::NoInstruction),
     }
 }
 
@@ -232,53 +238,50 @@ fn write_items(
         ActingInvariant allowance g m → SimulatesTry code.now allowance g m result n }
 {
     let begun = try_begin(g, code, frames);
-    let gone = try_span(begun, true, code, input, frames);
-    let selected = try_span(gone, false, code, input, frames);
+    let gone = try_span(begun, SpanKind::Go, code, input, frames);
+    let selected = try_span(gone, SpanKind::Select, code, input, frames);
     let written = try_writes(selected, code, input, output, frames, values);
-    try_span(written, true, code, input, frames)
+    try_span(written, SpanKind::Go, code, input, frames)
 }
 
 // One turn of the run: an application that is to begin, and, unless another is then to begin, instructions in the order
 // in which an expression mostly has them, each where it comes next, so that few turns are taken; then one more.
 fn advance(
     g: Registers,
-    bits: &[u8; 256],
-    code: &[u32],
-    allowance: u32,
+    program: Program,
     input: &mut [u8],
     output: &mut [u8],
     record: &mut [u8],
     frames: &mut [usize],
     values: &mut [u8],
 ) -> Next
-    requires answers { Answers bits.now }
-    requires code_in_bounds { count_in code.now < length code.now }
-    requires invariant { Invariant allowance g (memory input.old output.old «record».old frames.old values.old) }
-    ensures simulates { SimulatesTurn code.now allowance g
+    requires invariant { Invariant program.allowance g
+        (memory input.old output.old «record».old frames.old values.old) }
+    ensures simulates { SimulatesTurn program.entry.code.now program.entry.allowance g
         (memory input.old output.old «record».old
         frames.old values.old) result
         (memory input.new output.new «record».new
         frames.new values.new) }
 {
-    let entered = enter(g, bits, code, allowance, input, frames, values);
+    let entered = enter(g, program, input, frames, values);
     let Next::Onward(begun) = entered else {
         return entered;
     };
     if begun.callee != 0 {
         return Next::Onward(begun);
     }
+    let code = program.code;
     let written = write_items(begun, code, input, output, frames, values);
     let used = try_use(written, code, input, output, frames);
     let Next::Onward(ready) = used else {
         return used;
     };
-    let selected = try_span(ready, false, code, input, frames);
-    act(
-        selected, code, allowance, input, output, record, frames, values,
-    )
+    let selected = try_span(ready, SpanKind::Select, code, input, frames);
+    act(selected, program, input, output, record, frames, values)
 }
 
-// An answer's registers, how it says that the run goes on, and both put together.
+// An answer's registers, how it says that the run goes on, and both put together. They are functions and no methods:
+// `Next` and `Status` are run_actions's, and what these functions come to is defined here.
 pub fn registers_of(next: Next) -> Registers
     ensures result { result ≡ registers_in next }
 {
@@ -315,40 +318,29 @@ pub fn next_of(status: Status, g: Registers) -> Next
 pub fn is_onward(status: Status) -> bool
     ensures result { result ≡ is_onward status }
 {
-    match status {
-        Status::Onward => true,
-        Status::Done => false,
-        Status::Stopped(_, _) => false,
-        Status::Deeper => false,
-    }
+    matches!(status, Status::Onward)
 }
 
 // One turn: the new values are stored in the registers, and it is said how the run goes on.
 pub fn step(
     g: &mut Registers,
-    bits: &[u8; 256],
-    code: &[u32],
-    allowance: u32,
+    program: Program,
     input: &mut [u8],
     output: &mut [u8],
     record: &mut [u8],
     frames: &mut [usize],
     values: &mut [u8],
 ) -> Status
-    requires answers { Answers bits.now }
-    requires code_in_bounds { count_in code.now < length code.now }
-    requires invariant { Invariant allowance g.old
+    requires invariant { Invariant program.allowance g.old
         (memory input.old output.old «record».old frames.old values.old) }
-    ensures simulates { SimulatesTurn code.now allowance g.old
+    ensures simulates { SimulatesTurn program.entry.code.now program.entry.allowance g.old
         (memory input.old output.old «record».old
         frames.old values.old)
         (next_of result g.new)
         (memory input.new output.new «record».new
         frames.new values.new) }
 {
-    let next = advance(
-        *g, bits, code, allowance, input, output, record, frames, values,
-    );
+    let next = advance(*g, program, input, output, record, frames, values);
     *g = registers_of(next);
     status_of(next)
 }

@@ -5,13 +5,12 @@ use native.Mathlib.Decide.{dec_le}
 use mathlib.Core.Path.{◌≡◌, refl, ◌∙◌, ap}
 use mathlib.Core.List.{List}
 use lib.Bits.{bit_or, and_le_l, and_le_r, or_add_and}
-use lib.ListN.{length, drop, get_or}
+use lib.ListN.{length, take, drop, get_or, length-take}
+use lib.Seq.{get_or-drop}
+use Rattle.std.proofs.lemmas.List.{get_or-take}
 use borrow.Author.Tests.{lt-leb}
 use Rattle.tape_flatness.specs.Scanned.{Below, opens_call, CallScan, out_of_calls, in_call, scanned_calls, ArgumentPassed}
 use Rattle.tape_flatness.proofs.Passing.{closes_here, outer-stays, stays-low}
-
-pub below-starts : (bound : ℕ) (ws : List ℕ) (from : ℕ) → from ≤ length ws → Below bound ws from from
-below-starts bound ws from h = record { onward = omega arith; inside = h; below = λ k f g. absurd (omega arith) }
 
 pub below-joins : {bound : ℕ} {ws : List ℕ} {from at past : ℕ} → Below bound ws from at → Below bound ws at past → Below bound ws from past
 below-joins {bound = bound} {ws = ws} {at = at} b d =
@@ -32,12 +31,7 @@ below_one {bound = bound} {ws = ws} at b h {w = w} e l =
 pub below_less : {bound more : ℕ} {ws : List ℕ} {from past : ℕ} → Below bound ws from past → bound ≤ more → Below more ws from past
 below_less b h = record { onward = b.onward; inside = b.inside; below = λ k f g. omega (arith, b.below k f g) }
 
--- words that are joined bit by bit: none yet, and one more
-pub joined-starts : (ws : List ℕ) (from : ℕ) → from ≤ length ws → Below 1 ws from (from + 0)
-joined-starts ws from h =
-    let none : from + 0 ≡ from = omega arith in
-    rw none (below-starts 1 ws from h)
-
+-- words that are joined bit by bit: one more
 pub joined-one : {ws : List ℕ} {from : ℕ} (all k : ℕ) → Below (all + 1) ws from (from + k) → from + k < length ws
     → {word : ℕ} → word ≡ get_or ws (from + k) 0 → Below (bit_or all word + 1) ws from (from + (k + 1))
 joined-one {from = from} all k b h {word = word} e =
@@ -45,6 +39,13 @@ joined-one {from = from} all k b h {word = word} e =
     let end : from + k + 1 ≡ from + (k + 1) = omega arith in
     rw (← end)
     (below_one (from + k) (below_less b (omega (arith, sum, and_le_r all word))) h e (omega (arith, sum, and_le_l all word)))
+
+-- the words of a part of the tape
+pub part-word : (ws : List ℕ) (from n i : ℕ) → i < length (take (from + n - from) (drop from ws))
+    → get_or (take (from + n - from) (drop from ws)) i 0 ≡ get_or ws (from + i) 0
+part-word ws from n i h =
+    let l : i < from + n - from = omega (arith, length-take (from + n - from) (drop from ws)) in
+    get_or-take (from + n - from) (drop from ws) i 0 l ∙ get_or-drop from ws i 0
 
 -- IN A SCAN
 

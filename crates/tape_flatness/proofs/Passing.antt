@@ -1,21 +1,19 @@
 -- A scan word by word: what each does, where it stands at a place, and the words that change nothing.
-use Prim.Native.Nat.{ℕ, zero, suc, ◌+◌, ◌-◌, ◌/◌, ◌≤◌, ◌<◌}
+use Prim.Native.Nat.{ℕ, zero, suc, ◌+◌, ◌-◌, ◌≤◌, ◌<◌}
 use native.Mathlib.Omega.{arith}
 use mathlib.Core.Path.{◌≡◌, refl, sym, ◌∙◌, ap}
 use mathlib.Core.Bool.{Bool, true, false, not, true≢false}
 use mathlib.Core.List.{List, [], ◌∷◌, ◌++◌}
 use lib.Dec.{T}
-use lib.ListN.{length, take, drop, get_or, drop_of_length-le}
+use lib.ListN.{length, drop, get_or, drop_of_length-le}
 use lib.Seq.{drop-drop, drop-append_seam}
-use borrow.Author.Tests.{lt-ltb, le-ltb, lt-leb, eq-eqb, ne_eqb}
+use borrow.Author.Tests.{lt-leb, eq-eqb, ne_eqb}
 use Rattle.meaning.specs.Choice.{pick, both, every}
-use Rattle.meaning.specs.Names.{is_built_in}
-use Rattle.tape_layout.specs.Tape.{call_kind}
 use Rattle.meaning.proofs.Laws.Passing.{every-head, every-tail}
 use Rattle.meaning.proofs.Laws.Remaining.{at_place}
-use Rattle.tape_words.specs.Words.{carried, name_in, head_name}
+use Rattle.tape_words.specs.Words.{carried, head_name}
 use Rattle.tape_words.proofs.Laws.Lists.{part_length}
-use Rattle.tape_words.proofs.Laws.Names.{by_place, name-here, name-part}
+use Rattle.tape_words.proofs.Laws.Names.{by_place, name-here}
 use Rattle.tape_flatness.specs.Scanned.{earlier, only_if, opens_call, closes_call, item_follows, declared_call, called_size, CallScan, out_of_calls}
 use Rattle.tape_flatness.specs.Scanned.{in_call, leftmost_by, call_opened, call_closed, passed_word, scanned_calls, ArgumentPassed}
 
@@ -38,26 +36,6 @@ unfolding scanned_calls
 word-then w ws s = refl
 
 module _ (ws : List ℕ) (i : ℕ) (h : i < length ws) {w : ℕ} (e : w ≡ get_or ws i 0) where
-  pub item-low : w < 768 → true ≡ item_follows (drop i ws)
-  item-low k = rw (at_place ws i h, ← e, lt-ltb w 768 k)
-
-  pub item-high : 768 ≤ w → {opens : Bool} → opens ≡ opens_call w → opens ≡ item_follows (drop i ws)
-  item-high k f = rw (at_place ws i h, ← e, le-ltb w 768 k) f
-
-  module _ {is : Bool} {size : ℕ} (g : size ≡ length (head_name ws i)) (k : is ≡ is_built_in (take size (drop (i + 1) ws))) where
-    declared-by : only_if (not is) (suc (w / 256 - call_kind)) ≡ declared_call (drop i ws)
-    declared-by =
-        let name : take size (drop (i + 1) ws) ≡ name_in (drop i ws) = ap (λ (n : ℕ). take n (drop (i + 1) ws)) g ∙ sym (name-part ws i) in
-        rw (k, name, e, at_place ws i h)
-
-    pub built-in-here : is ≡ true → 0 ≡ declared_call (drop i ws)
-    built-in-here m = rw m at declared-by
-
-    pub declared-here : is ≡ false → {place : ℕ} → place ≡ w / 256 - call_kind → place + 1 ≡ declared_call (drop i ws)
-    declared-here m {place = place} f =
-        let more : place + 1 ≡ suc place = omega arith in
-        rw (more, f) (rw m at declared-by)
-
   -- what the word does to the scan
   word-passed : (s : CallScan) → scanned_calls 0 (drop i ws) s
       ≡ scanned_calls (called_size w) (drop (i + 1) ws)

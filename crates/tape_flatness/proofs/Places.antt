@@ -1,21 +1,11 @@
 -- The leftmost of some calls, whatever their order.
-use Prim.Native.Nat.{ℕ, zero, suc, ◌-◌, min}
+use Prim.Native.Nat.{ℕ, zero, suc}
 use native.Mathlib.Omega.{arith}
 use mathlib.Core.Path.{◌≡◌, refl, sym, ◌∙◌, ap}
 use mathlib.Core.List.{List, [], ◌∷◌, ◌++◌}
 use mathlib.Core.Option.{Option, none, some}
 use Rattle.meaning.specs.Flat.{lesser, leftmost}
-use Rattle.tape_flatness.specs.declared.Place.TheVariants.{At}
 use Rattle.tape_flatness.specs.Scanned.{placed, place_of, earlier}
-
-pub place-before : (call : ℕ) → (call ≡ 0 → ⊥) → At (call - 1) ≡ place_of call
-place-before zero h = absurd (h refl)
-place-before (suc place) h = ap At (omega arith)
-
-pub earlier-least : (a b : ℕ) → (a ≡ 0 → ⊥) → (b ≡ 0 → ⊥) → min a b ≡ earlier a b
-earlier-least zero b h k = absurd (h refl)
-earlier-least (suc a) zero h k = absurd (k refl)
-earlier-least (suc a) (suc b) h k = omega arith
 
 pub earlier-nothing : (a : ℕ) → earlier a 0 ≡ a
 earlier-nothing zero = refl

@@ -1,22 +1,21 @@
 -- Which of a tape's words open a declared call that is no tail call, for any words at all: 02, T-06.
 use Rattle.std.specs.Prelude.{ℕ, zero, suc, ◌≤◌, ◌<◌, min, ◌≡◌, Bool, not, true, false, List, [], ◌∷◌, eqb, leb, ltb, length, drop, get_or}
-use Rattle.std.proofs.Math.Option.{Option, none, some}
+use Rattle.std.specs.Prelude.{Option, None, Some}
+use Rattle.std.proofs.Math.Option.{Option as Choice, none, some}
 use Rattle.meaning.specs.Choice.{pick, either}
 use Rattle.meaning.specs.Names.{is_built_in}
 use Rattle.tape_layout.specs.Tape.{tape_word, condition_kind, close_kind, call_kind}
 use Rattle.tape_words.specs.Words.{carried, called_place, name_in}
-use Rattle.tape_flatness.specs.declared.Place.{Place}
-use Rattle.tape_flatness.specs.declared.Place.TheVariants.{At, Nowhere}
 
 -- a place that may be there, as the code says it
-abbrev pub placed : Option ℕ → Place
-placed none = Nowhere
-placed (some place) = At place
+abbrev pub placed : Choice ℕ → Option ℕ
+placed none = None
+placed (some place) = Some place
 
 -- a call is told by one more than the place of its name, none by 0
-abbrev pub place_of : ℕ → Place
-place_of zero = Nowhere
-place_of (suc place) = At place
+abbrev pub place_of : ℕ → Option ℕ
+place_of zero = None
+place_of (suc place) = Some place
 
 -- the one of two calls that stands further left
 abbrev pub earlier : ℕ → ℕ → ℕ
@@ -115,5 +114,5 @@ ArgumentPassed ws from leftmost next found =
     ≡ scanned_calls 0 (drop next ws) (call_closed (item_follows (drop next ws)) (in_call 0 outermost found))
 
 -- "the place of its name, leftmost"
-abbrev pub nested_call : List ℕ → Place
+abbrev pub nested_call : List ℕ → Option ℕ
 nested_call ws = place_of (scanned_calls 0 ws (out_of_calls 0))

@@ -1,16 +1,15 @@
 // Whether a table is flat, by its tape: where its leftmost declared call is that is no tail call. 02's T-06.
 #![tactic(auto)]
 
-ghost use Rattle.std.specs.Prelude.{◌≡◌, true, ℕ, ◌+◌, ◌≤◌, ◌<◌, length, drop, get_or};
+ghost use Rattle.std.specs.Prelude.{◌≡◌, true, ℕ, ◌+◌, ◌≤◌, ◌<◌, length, drop, get_or, IfSome};
 ghost use Rattle.tape_layout.specs.Tape.{kind_width};
-ghost use Rattle.tape_words.specs.Words.{carried, head_name};
+ghost use Rattle.tape_words.specs.Words.{carried};
 ghost use Rattle.tape_flatness.specs.Scanned.{earlier, place_of, opens_call, item_follows, declared_call};
 ghost use Rattle.tape_flatness.specs.Scanned.{out_of_calls, scanned_calls, Below, ArgumentPassed, NoneFurtherLeft};
 ghost use Rattle.tape_flatness.specs.Scanned.{nested_call, joined_at_once, short_argument};
 
-use arithmetic::{less, lesser};
 use tape_words::names::is_built_in;
-use tape_words::tape::{name_size, word_at, word_inside};
+use tape_words::tape::{name_at, word_at, word_inside};
 use tape_words::wide::{CALL_KIND, CALL_WORD, CLOSE_WORD, CONDITION_WORD, KIND_WIDTH};
 
 // So many words are joined at once.
@@ -22,16 +21,9 @@ const SHORT_ARGUMENT: usize = 16;
 // The furthest call that a word can tell: it has 32 bits.
 const FURTHEST: usize = 16777207;
 
-// The place of a called name, if there is one.
-#[derive(Drop)]
-pub enum Place {
-    At(usize),
-    Nowhere,
-}
-
 // Where some words end, and the leftmost declared call so far that is no tail call. A call is told by one more than the
 // place of its name, none by 0: numbers stay in machine registers.
-#[derive(Drop)]
+#[derive(Clone, Copy)]
 pub struct Passed {
     pub next: usize,
     pub leftmost: usize,
@@ -47,16 +39,14 @@ fn earlier(one: usize, other: usize) -> usize
     if other == 0 {
         return one;
     }
-    lesser(one, other)
+    one.min(other)
 }
 
-fn place_of(call: usize) -> Place
+// The place of the called name, if there is one.
+fn place_of(call: usize) -> Option<usize>
     ensures { result ≡ place_of call }
 {
-    if call == 0 {
-        return Place::Nowhere;
-    }
-    Place::At(call - 1)
+    call.checked_sub(1)
 }
 
 fn opens_call(word: usize) -> bool
@@ -69,25 +59,19 @@ fn opens_call(word: usize) -> bool
 fn item_follows(tape: &[u32], i: usize) -> bool
     ensures { result ≡ item_follows (drop i tape.now) }
 {
-    if tape.len() <= i {
-        return false;
-    }
     let word = word_at(tape, i);
-    if word < CONDITION_WORD {
-        return true;
-    }
-    opens_call(word)
+    i < tape.len() && (word < CONDITION_WORD || opens_call(word))
 }
 
 // The call that a word opens, unless it needs no declaration.
-fn declared_call(tape: &[u32], i: usize, size: usize) -> usize
-    requires { (i < length tape.now) × (size ≡ length (head_name tape.now i)) }
+fn declared_call(tape: &[u32], i: usize) -> usize
+    requires { i < length tape.now }
     ensures { result ≡ declared_call (drop i tape.now) }
 {
-    if is_built_in(tape, i + 1, size) {
+    if is_built_in(name_at(tape, i)) {
         return 0;
     }
-    let place = less(word_at(tape, i) / KIND_WIDTH, CALL_KIND);
+    let place = (word_at(tape, i) / KIND_WIDTH).saturating_sub(CALL_KIND);
     place + 1
 }
 
@@ -105,17 +89,15 @@ fn joined(tape: &[u32], from: usize) -> usize
     requires { from + joined_at_once ≤ length tape.now }
     ensures { Below (result + 1) tape.now from (from + joined_at_once) }
 {
-    let mut all = 0usize;
-    let mut k = 0;
-    while k < JOINED_AT_ONCE {
-        let word = word_inside(tape, from + k);
-        all = all | word;
-        k += 1;
+    let mut all = 0;
+    for word in &tape[from..from + JOINED_AT_ONCE] {
+        all |= *word;
     }
-    all
+    all as usize
 }
 
-// The place after the words below a bound, so many at a time.
+// The place after the words below a bound, so many at a time. The loop counts by hand: it goes on by JOINED_AT_ONCE
+// words and hands back a place.
 fn groups_past(tape: &[u32], from: usize, bound: usize) -> usize
     requires { from ≤ length tape.now }
     ensures { Below bound tape.now from result }
@@ -138,34 +120,31 @@ fn low_past(tape: &[u32], from: usize, bound: usize) -> usize
     if bound <= word_at(tape, from) {
         return from;
     }
-    let mut at = groups_past(tape, from, bound);
-    while at < tape.len() {
+    for at in groups_past(tape, from, bound)..tape.len() {
         if bound <= word_inside(tape, at) {
             return at;
         }
-        at += 1;
     }
-    at
+    tape.len()
 }
 
-// How far from the end of a name the words after its argument begin, if that is short and has no call; else 0.
-fn short_past(tape: &[u32], end: usize) -> usize
+// How far from the end of a name the words after its argument begin, if that is short and has no call. Not where they
+// begin: the place is then one sum away from the end of the name.
+fn short_past(tape: &[u32], end: usize) -> Option<usize>
     requires { end + short_argument < length tape.now }
-    ensures { (result ≤ short_argument + 1) × ((result ≡ 0 → ⊥) → (leftmost : ℕ)
-        → ArgumentPassed tape.now (end + 1) leftmost (end + result) leftmost) }
+    ensures { IfSome result (λ past. (0 < past) × (past ≤ short_argument + 1) × ((leftmost : ℕ)
+        → ArgumentPassed tape.now (end + 1) leftmost (end + past) leftmost)) }
 {
-    let mut k = 1;
-    while k <= SHORT_ARGUMENT {
+    for k in 1..SHORT_ARGUMENT + 1 {
         let word = word_inside(tape, end + k);
         if CLOSE_WORD <= word {
             if word == CLOSE_WORD {
-                return k + 1;
+                return Some(k + 1);
             }
-            return 0;
+            return None;
         }
-        k += 1;
     }
-    0
+    None
 }
 
 // An outermost call's argument from a place on, to where the call closes: a declared call in it is no tail call.
@@ -175,6 +154,7 @@ fn pass_items(tape: &[u32], from: usize, leftmost: usize) -> Passed
     let mut found = leftmost;
     let mut more = 0usize;
     let mut i = from;
+    // Each step begins where the one before it ended, so no `for` counts them.
     while i < tape.len() {
         let word = word_at(tape, i);
         if word == CLOSE_WORD {
@@ -187,8 +167,7 @@ fn pass_items(tape: &[u32], from: usize, leftmost: usize) -> Passed
             more -= 1;
             i += 1;
         } else if opens_call(word) {
-            let call = declared_call(tape, i, name_size(tape, i));
-            found = earlier(call, found);
+            found = earlier(declared_call(tape, i), found);
             more += 1;
             i = name_end(tape, i) + 1;
         } else {
@@ -207,12 +186,9 @@ fn pass_argument(tape: &[u32], end: usize, leftmost: usize) -> Passed
     ensures { (end < result.next) × ArgumentPassed tape.now (end + 1) leftmost result.next result.leftmost }
 {
     if end + SHORT_ARGUMENT < tape.len() {
-        let past = short_past(tape, end);
-        if past != 0 {
-            return Passed {
-                next: end + past,
-                leftmost,
-            };
+        if let Some(past) = short_past(tape, end) {
+            let next = end + past;
+            return Passed { next, leftmost };
         }
     }
     pass_items(tape, end + 1, leftmost)
@@ -225,12 +201,9 @@ fn pass_call(tape: &[u32], i: usize, leftmost: usize) -> Passed
         ≡ scanned_calls 0 (drop result.next tape.now) (out_of_calls result.leftmost)) }
 {
     let passed = pass_argument(tape, name_end(tape, i), leftmost);
-    let next = passed.next;
-    let found = passed.leftmost;
-    if item_follows(tape, next) {
-        let call = declared_call(tape, i, word_at(tape, i) % KIND_WIDTH);
-        let leftmost = earlier(call, found);
-        return Passed { next, leftmost };
+    if item_follows(tape, passed.next) {
+        let leftmost = earlier(declared_call(tape, i), passed.leftmost);
+        return Passed { leftmost, ..passed };
     }
     passed
 }
@@ -246,22 +219,21 @@ fn settled(tape: &[u32], from: usize, leftmost: usize) -> bool
     let first_call = CALL_WORD as u32;
     let no_further_left = ((leftmost + CALL_KIND - 1) * KIND_WIDTH) as u32;
     let mut any = false;
-    let mut at = from;
-    while at < tape.len() {
+    for at in from..tape.len() {
         let word = tape[at];
-        any = any | ((first_call <= word) & (word < no_further_left));
-        at += 1;
+        any |= (first_call <= word) & (word < no_further_left);
     }
     !any
 }
 
 // Where the leftmost declared call stands that is no tail call, by the name's place. Once one is found, the rest is
 // read only for calls further left: a table's tape has none.
-pub fn nested_call(tape: &[u32]) -> Place
+pub fn nested_call(tape: &[u32]) -> Option<usize>
     ensures { result ≡ nested_call tape.now }
 {
     let mut leftmost = 0;
     let mut i = 0;
+    // Each step begins where the one before it ended, so no `for` counts them.
     while i < tape.len() {
         if opens_call(word_at(tape, i)) {
             let passed = pass_call(tape, i, leftmost);

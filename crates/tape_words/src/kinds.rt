@@ -1,5 +1,6 @@
 // The kinds of the tape's words, as they stand on it. A word is its kind times KIND_WIDTH, and what it carries, which
-// is below that; a character is its byte. `wide` has the same numbers as counts.
+// is below that; a character is its byte. `wide` has the same numbers as counts. A kind is no enum: a call's counts on
+// by the place of its name, and the tape's fixed memory has one u32 for a kind and what it carries.
 pub const KIND_WIDTH: u32 = 256;
 
 pub const SYMBOL_KIND: u32 = 1;

@@ -1,212 +1,124 @@
-// Names on the tape: comparing two, finding one in a list, telling how a call is done, and finding who recovers a
+// Names, as slices of the tape: finding one in a list of heads, telling how a call is done, and finding who recovers a
 // function.
-ghost use Rattle.std.specs.Prelude.{◌≡◌, ◌++◌, ◌+◌, ◌≤◌, length, take, drop};
+ghost use Rattle.std.specs.Prelude.{◌≡◌, ◌++◌, ◌<◌, ◌≤◌, length, IsTrue, IfSome};
 ghost use Rattle.meaning.specs.Choice.{same_bytes, starts_with};
-ghost use Rattle.meaning.specs.Angles.{plus, minus};
-ghost use Rattle.meaning.specs.Names.{is_emission, operation_name, calling_of, is_built_in, is_recovering};
+ghost use Rattle.meaning.specs.Names.{is_emission, calling_of, is_built_in, is_recovering};
 ghost use Rattle.tape_words.specs.Words.{head_name, head_names};
-ghost use Rattle.tape_words.specs.Finding.{number_among, calling_in, is_known_among, recoverer_among};
+ghost use Rattle.tape_words.specs.Finding.{place_number, number_among, calling_in, is_known_among, recoverer_among};
 
-use crate::tape::{name_size, word_at, word_inside};
+use crate::tape::name_at;
+use code_numbers::operations::Operation;
 
-// How a call of a name is done: as an emission, as an angle call, by whether it subtracts, or by applying the function
-// declared under it.
-#[derive(Drop)]
+// How a call of a name is done: as an emission, as an angle call, or by applying the function declared under it.
+#[derive(Clone, Copy)]
 pub enum Calling {
     Emission,
-    Angles(bool),
+    Angles(Operation),
     Function,
 }
 
-// So many words at two places are the same.
-fn same_words(tape: &[u32], a: usize, b: usize, size: usize) -> bool
-    requires { (a + size ≤ length tape.now) × (b + size ≤ length tape.now) }
-    ensures { result ≡ same_bytes (take size (drop a tape.now)) (take size (drop b tape.now)) }
+// The names are the same.
+fn same_name(name: &[u32], other: &[u32]) -> bool
+    ensures { result ≡ same_bytes name.now other.now }
 {
-    let mut i = 0;
-    while i < size {
-        if word_at(tape, a + i) != word_at(tape, b + i) {
-            return false;
-        }
-        i += 1;
-    }
-    true
+    name == other
 }
 
-// The name of `size` words at `from` begins with a prefix.
-fn starts_with(tape: &[u32], from: usize, size: usize, prefix: &[u8]) -> bool
-    requires { from + size ≤ length tape.now }
-    ensures { result ≡ starts_with prefix.now (take size (drop from tape.now)) }
+// The name after the word at `head` is this.
+pub fn name_is(tape: &[u32], head: usize, name: &[u32]) -> bool
+    ensures { result ≡ same_bytes name.now (head_name tape.now head) }
 {
-    if size < prefix.len() {
-        return false;
-    }
-    let mut i = 0;
-    while i < prefix.len() {
-        let byte = prefix[i] as usize;
-        if byte != word_inside(tape, from + i) {
-            return false;
-        }
-        i += 1;
-    }
-    true
+    same_name(name, name_at(tape, head))
+}
+
+// The name begins with a prefix.
+fn starts_with(name: &[u32], prefix: &[u8]) -> bool
+    ensures value { result ≡ starts_with prefix.now name.now }
+    ensures bound { IsTrue result → length prefix.now ≤ length name.now }
+{
+    prefix.len() <= name.len()
+        && prefix
+            .iter()
+            .zip(name)
+            .all(|(byte, word)| u32::from(*byte) == *word)
 }
 
 // It is a word.
-fn spells(tape: &[u32], from: usize, size: usize, word: &[u8]) -> bool
-    requires { from + size ≤ length tape.now }
-    ensures { result ≡ same_bytes (take size (drop from tape.now)) word.now }
+fn spells(name: &[u32], word: &[u8]) -> bool
+    ensures { result ≡ same_bytes name.now word.now }
 {
-    if size != word.len() {
-        return false;
-    }
-    starts_with(tape, from, size, word)
+    name.len() == word.len() && starts_with(name, word)
 }
 
-// The name after the word at `head` is a prefix, and then that of `size` words at `from`.
-fn is_prefixed(tape: &[u32], head: usize, prefix: &[u8], from: usize, size: usize) -> bool
-    requires { from + size ≤ length tape.now }
-    ensures { result ≡ same_bytes (prefix.now ++ take size (drop from tape.now))
-        (head_name tape.now head) }
+// It is a prefix, and then another name.
+fn is_prefixed(name: &[u32], prefix: &[u8], other: &[u32]) -> bool
+    ensures { result ≡ same_bytes (prefix.now ++ other.now) name.now }
 {
-    let named = name_size(tape, head);
-    if named != prefix.len() + size {
-        return false;
-    }
-    if named == 0 {
-        return true;
-    }
-    if starts_with(tape, head + 1, named, prefix) {
-        return same_words(tape, from, head + 1 + prefix.len(), size);
-    }
-    false
+    starts_with(name, prefix) && same_name(other, &name[prefix.len()..])
 }
 
-// The name after the word at `head` is that of `size` words at `from`.
-pub fn name_is(tape: &[u32], head: usize, from: usize, size: usize) -> bool
-    requires { from + size ≤ length tape.now }
-    ensures { result ≡ same_bytes (take size (drop from tape.now)) (head_name tape.now head) }
+// The place in a list of heads, counted from 0, of the first whose name it is.
+pub fn find(tape: &[u32], heads: &[usize], name: &[u32]) -> Option<usize>
+    ensures number { place_number result ≡ number_among 0 (head_names tape.now heads.now) name.now }
+    ensures bound { IfSome result (λ k. k < length heads.now) }
 {
-    is_prefixed(tape, head, b"", from, size)
-}
-
-// The number, counted from 1, of the first of `count` heads whose name is a prefix, and then that at `from`; 0 where
-// there is none.
-fn find_prefixed(
-    tape: &[u32],
-    heads: &[usize],
-    count: usize,
-    prefix: &[u8],
-    from: usize,
-    size: usize,
-) -> usize
-    requires { (count ≤ length heads.now) × (from + size ≤ length tape.now) }
-    ensures { (result ≡ number_among 0 (head_names tape.now (take count heads.now))
-        (prefix.now ++ take size (drop from tape.now))) × (result ≤ count) }
-{
-    let mut k = 0;
-    while k < count {
-        let head = heads[k];
-        if is_prefixed(tape, head, prefix, from, size) {
-            return k + 1;
-        }
-        k += 1;
-    }
-    0
-}
-
-// The same of the name at `from` alone.
-pub fn find(tape: &[u32], heads: &[usize], count: usize, from: usize, size: usize) -> usize
-    requires { (count ≤ length heads.now) × (from + size ≤ length tape.now) }
-    ensures { (result ≡ number_among 0 (head_names tape.now (take count heads.now))
-        (take size (drop from tape.now))) × (result ≤ count) }
-{
-    find_prefixed(tape, heads, count, b"", from, size)
+    heads.iter().position(|head| name_is(tape, *head, name))
 }
 
 // It begins with Emit.
-fn is_emission(tape: &[u32], from: usize, size: usize) -> bool
-    requires { from + size ≤ length tape.now }
-    ensures { result ≡ is_emission (take size (drop from tape.now)) }
+fn is_emission(name: &[u32]) -> bool
+    ensures { result ≡ is_emission name.now }
 {
-    starts_with(tape, from, size, b"Emit")
-}
-
-// It is that of a sum of angles.
-fn is_sum(tape: &[u32], from: usize, size: usize) -> bool
-    requires { from + size ≤ length tape.now }
-    ensures { result ≡ same_bytes (take size (drop from tape.now)) (operation_name plus) }
-{
-    spells(tape, from, size, b"DmAdd")
-}
-
-// It is that of a difference.
-fn is_difference(tape: &[u32], from: usize, size: usize) -> bool
-    requires { from + size ≤ length tape.now }
-    ensures { result ≡ same_bytes (take size (drop from tape.now)) (operation_name minus) }
-{
-    spells(tape, from, size, b"DmSub")
+    starts_with(name, b"Emit")
 }
 
 // How a call of it is done.
-pub fn calling_of(tape: &[u32], from: usize, size: usize) -> Calling
-    requires { from + size ≤ length tape.now }
-    ensures { result ≡ calling_in (calling_of (take size (drop from tape.now))) }
+pub fn calling_of(name: &[u32]) -> Calling
+    ensures { result ≡ calling_in (calling_of name.now) }
 {
-    if is_emission(tape, from, size) {
+    if is_emission(name) {
         return Calling::Emission;
     }
-    if is_sum(tape, from, size) {
-        return Calling::Angles(false);
+    if spells(name, b"DmAdd") {
+        return Calling::Angles(Operation::Plus);
     }
-    if is_difference(tape, from, size) {
-        return Calling::Angles(true);
+    if spells(name, b"DmSub") {
+        return Calling::Angles(Operation::Minus);
     }
     Calling::Function
 }
 
-// A call of it needs no declaration. Short, so that the compiler puts it where it is asked.
-pub fn is_built_in(tape: &[u32], from: usize, size: usize) -> bool
-    requires { from + size ≤ length tape.now }
-    ensures { result ≡ is_built_in (take size (drop from tape.now)) }
+// A call of it needs no declaration. It asks no more than that, and is short, so that the compiler puts it where it is
+// asked.
+pub fn is_built_in(name: &[u32]) -> bool
+    ensures { result ≡ is_built_in name.now }
 {
-    if is_emission(tape, from, size) {
-        return true;
-    }
-    if is_sum(tape, from, size) {
-        return true;
-    }
-    is_difference(tape, from, size)
+    is_emission(name) || spells(name, b"DmAdd") || spells(name, b"DmSub")
 }
 
-// A call of it can be done: it is built in, or one of `count` heads has it.
-pub fn is_known(tape: &[u32], heads: &[usize], count: usize, from: usize, size: usize) -> bool
-    requires { (count ≤ length heads.now) × (from + size ≤ length tape.now) }
-    ensures { result ≡ is_known_among (head_names tape.now (take count heads.now))
-        (take size (drop from tape.now)) }
+// A call of it can be done: it is built in, or one of the heads has it.
+pub fn is_known(tape: &[u32], heads: &[usize], name: &[u32]) -> bool
+    ensures { result ≡ is_known_among (head_names tape.now heads.now) name.now }
 {
-    if is_built_in(tape, from, size) {
-        return true;
-    }
-    0 < find(tape, heads, count, from, size)
+    is_built_in(name) || find(tape, heads, name).is_some()
 }
 
 // It begins with Recover.
-fn is_recovering(tape: &[u32], from: usize, size: usize) -> bool
-    requires { from + size ≤ length tape.now }
-    ensures { result ≡ is_recovering (take size (drop from tape.now)) }
+fn is_recovering(name: &[u32]) -> bool
+    ensures { result ≡ is_recovering name.now }
 {
-    starts_with(tape, from, size, b"Recover")
+    starts_with(name, b"Recover")
 }
 
-// The number of the function that recovers the one whose name stands at `from`; 0 where there is none.
-pub fn find_recoverer(tape: &[u32], heads: &[usize], from: usize, size: usize) -> usize
-    requires { from + size ≤ length tape.now }
-    ensures { (result ≡ recoverer_among (head_names tape.now heads.now)
-        (take size (drop from tape.now))) × (result ≤ length heads.now) }
+// The place of the function that recovers the one with this name.
+pub fn find_recoverer(tape: &[u32], heads: &[usize], name: &[u32]) -> Option<usize>
+    ensures number { place_number result ≡ recoverer_among (head_names tape.now heads.now) name.now }
+    ensures bound { IfSome result (λ k. k < length heads.now) }
 {
-    if is_recovering(tape, from, size) {
-        return 0;
+    if is_recovering(name) {
+        return None;
     }
-    find_prefixed(tape, heads, heads.len(), b"Recover", from, size)
+    heads
+        .iter()
+        .position(|head| is_prefixed(name_at(tape, *head), b"Recover", name))
 }

@@ -3,14 +3,13 @@ ghost use Rattle.std.specs.Prelude.{◌≡◌, false, ◌∷◌, ◌+◌, ◌-�
 ghost use Rattle.meaning.specs.Allowed.{max_letters};
 ghost use Rattle.meaning.specs.Choice.{pick};
 ghost use Rattle.tape_layout.specs.Tape.{kind_width};
-ghost use Rattle.tape_words.specs.Words.{head_name, part_piece, piece_of, piece_at, ending_of, opening_of, item_of_word};
-ghost use Rattle.tape_words.specs.Words.{item_at};
+ghost use Rattle.tape_words.specs.Words.{head_name, part_piece, piece_of, piece_at, ending_of, opening_of};
+ghost use Rattle.tape_words.specs.Words.{item_of_word, item_at};
 
 use crate::limits::{MAX_ITEMS, MAX_LETTERS, MAX_NESTING};
 use crate::wide::{
     CALL_WORD, CLOSE_WORD, CONDITION_WORD, KIND_WIDTH, NEXT_WORD, PART_WORD, SYMBOL_WORD,
 };
-use arithmetic::{less, lesser};
 
 // How many e-variables a pattern has, or has had so far.
 #[derive(Clone, Copy)]
@@ -31,7 +30,7 @@ pub enum Piece {
 
 // What a word is where an expression may go on. `Pass`: a call with 16 open round it, which no table has. `Unclosed`:
 // no item, with a call open.
-#[derive(Drop)]
+#[derive(Clone, Copy)]
 pub enum Item {
     Byte,
     Symbol,
@@ -62,11 +61,7 @@ pub fn word_inside(tape: &[u32], i: usize) -> usize
 pub fn word_at(tape: &[u32], i: usize) -> usize
     ensures { (result ≡ get_or tape.now i 0) × (result < 2 ^ 32) }
 {
-    if i < tape.len() {
-        word_inside(tape, i)
-    } else {
-        0
-    }
+    tape.get(i).map_or(0, |word| *word as usize)
 }
 
 // The word at a place of the tape, before those after it.
@@ -82,40 +77,45 @@ pub fn of_kind(word: usize, low: usize) -> bool
     requires { low < 2 ^ 32 }
     ensures { result ≡ pick (ltb word low) false (ltb word (low + kind_width)) }
 {
-    if word < low {
-        return false;
-    }
-    word < low + KIND_WIDTH
+    low <= word && word < low + KIND_WIDTH
 }
 
 // How many of so many words from a place on the tape has.
 pub fn reach(tape: &[u32], from: usize, claimed: usize) -> usize
     ensures { result ≡ length (take claimed (drop from tape.now)) }
 {
-    lesser(claimed, less(tape.len(), from))
+    claimed.min(tape.len().saturating_sub(from))
+}
+
+// The name that stands after its word, as far as the tape goes.
+pub fn name_at(tape: &[u32], head: usize) -> &[u32]
+    ensures { result.now ≡ head_name tape.now head }
+{
+    if tape.len() <= head {
+        return &[];
+    }
+    let after = &tape[head + 1..];
+    let size = tape[head] as usize % KIND_WIDTH;
+    &after[..size.min(after.len())]
 }
 
 // How long the name is that stands after its word.
 pub fn name_size(tape: &[u32], head: usize) -> usize
     ensures { result ≡ length (head_name tape.now head) }
 {
-    if head < tape.len() {
-        reach(tape, head + 1, word_on(tape, head) % KIND_WIDTH)
-    } else {
-        0
-    }
+    name_at(tape, head).len()
 }
 
 fn part_piece(parts: Parts) -> Piece
     ensures { result ≡ part_piece parts }
 {
     match parts {
-        Parts::Zero => Piece::EVariable,
-        Parts::One => Piece::EVariable,
+        Parts::Zero | Parts::One => Piece::EVariable,
         Parts::Two => Piece::PatternEnd,
     }
 }
 
+// What a word is by its kind: the tests stand in the order of the definition `piece_of`.
 fn piece_of(word: usize, letters: usize, parts: Parts) -> Piece
     ensures { result ≡ piece_of word letters parts }
 {
@@ -144,7 +144,7 @@ pub fn piece_at(tape: &[u32], i: usize, letters: usize, parts: Parts) -> Piece
     }
 }
 
-// Where no item follows: a call's end, or the expression's.
+// Where no item follows: a call's end, or the expression's. The tests stand in the order of the definition `ending_of`.
 fn ending_of(word: usize, depth: usize) -> Item
     ensures { result ≡ ending_of word depth }
 {
@@ -170,6 +170,7 @@ fn opening_of(depth: usize) -> Item
     }
 }
 
+// What a word is by its kind: the tests stand in the order of the definition `item_of_word`.
 fn item_of(word: usize, depth: usize, items: usize) -> Item
     ensures { result ≡ item_of_word word depth items }
 {

@@ -1,4 +1,6 @@
-// The kinds of the tape's words as counts: the first word of each kind, and what a condition's word carries.
+// The kinds of the tape's words as counts: the first word of each kind, and what a condition's word carries. What is
+// read of the tape indexes buffers and is a usize; what is written on it is a u32, of `kinds`: one set of either type
+// would need a conversion at each use.
 use crate::kinds;
 
 pub const KIND_WIDTH: usize = kinds::KIND_WIDTH as usize;

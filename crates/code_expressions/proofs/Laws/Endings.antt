@@ -10,7 +10,8 @@ use lib.Dec.{eqb}
 use lib.ListN.{length, drop, get_or}
 use Rattle.meaning.specs.Choice.{Name, pick, both, guard}
 use Rattle.meaning.specs.Tree.{Expression, end, Table}
-use Rattle.meaning.specs.Angles.{plus, minus, operation}
+use Rattle.code_numbers.specs.Operations.{operation_meant}
+use Rattle.meaning.specs.Angles.{plus, minus}
 use Rattle.meaning.specs.Names.{Calling as Called, as_emission, as_angles, as_function, calling_of, number_of}
 use Rattle.meaning.specs.Translation.{Shape, Manner as MeantManner, emits, computes, replaces, nests, Level, outermost, in_argument, in_tail, is_end}
 use Rattle.meaning.specs.Translation.{manner_as, manner_of, level_in, ends_pattern, left_for}
@@ -32,7 +33,7 @@ use Rattle.code_expressions.proofs.Laws.Resumed.{open-less, open-last, outermost
 
 abbrev pub meant : Manner → MeantManner
 meant Emits = emits
-meant (Computes subtract) = computes (operation subtract)
+meant (Computes op) = computes (operation_meant op)
 meant Replaces = replaces
 meant Nests = nests
 
@@ -123,7 +124,7 @@ module _ (ws calls : List ℕ) (w : Walk) where
     -- a tail call leaves nothing to be read
     replaces-last : (c : Calling) (b : Bool) → manner_by c b ≡ Replaces → b ≡ true
     replaces-last Emission b e = cc
-    replaces-last (Angles subtract) b e = cc
+    replaces-last (Angles op) b e = cc
     replaces-last Function true e = refl
     replaces-last Function false e = cc
 
@@ -131,11 +132,11 @@ module _ (ws calls : List ℕ) (w : Walk) where
     last-stops true c e = (refl, e)
     last-stops false c e = (cc, cc)
 
-    pub rest-same : (k : Manner) (at : ℕ) → manner ≡ k → rest_now (continues k) ws (call_done w next at (continues k)) ≡ (levels_now ws w).rest
-    rest-same Emits at e = sym (ap (λ (l : Levels). l.rest) ends.now)
-    rest-same (Computes subtract) at e = sym (ap (λ (l : Levels). l.rest) ends.now)
-    rest-same Nests at e = sym (ap (λ (l : Levels). l.rest) ends.now)
-    rest-same Replaces at e =
+    pub rest-same : (k : Manner) → manner ≡ k → rest_now (continues k) ws (call_done w next (continues k)) ≡ (levels_now ws w).rest
+    rest-same Emits e = sym (ap (λ (l : Levels). l.rest) ends.now)
+    rest-same (Computes op) e = sym (ap (λ (l : Levels). l.rest) ends.now)
+    rest-same Nests e = sym (ap (λ (l : Levels). l.rest) ends.now)
+    rest-same Replaces e =
         let tests = last-stops (eqb under 0) (is_stop (item_at (drop next ws) 0 w.items)) (replaces-last (calling_in (calling_of called)) last e) in
         let none_read : later next ≡ levels_ended (drop next ws) =
         rw (eqb-true under 0 tests.0) (levels-stop ws next 0 w.items (stop-stops (item_at (drop next ws) 0 w.items) tests.1)) in
@@ -159,7 +160,7 @@ module _ (ws calls : List ℕ) (w : Walk) where
     where
       by-manner : (k : Manner) (f : ℕ) → left_for s (level_in (meant k) f) x end ≡ guard (both (not (continues k)) (ends_pattern s x)) (some f)
       by-manner Emits f = refl
-      by-manner (Computes subtract) f = refl
+      by-manner (Computes op) f = refl
       by-manner Replaces f = refl
       by-manner Nests f = refl
 
@@ -180,10 +181,10 @@ module _ (ws calls : List ℕ) (w : Walk) where
     pub depth : p.depth ≡ under
 
   end-passed : {next : ℕ} {outer : List Expression} → Ends next outer → next ≤ length ws + 1 → continues (manner_now ws calls next w) ≡ false
-      → Passed (call_done w next w.at (continues (manner_now ws calls next w)))
+      → Passed (call_done w next (continues (manner_now ws calls next w)))
   end-passed {next} ends fits e =
       let more = continues (manner_now ws calls next w) in
-      let rest : rest_now more ws (call_done w next w.at more) ≡ (levels_now ws w).rest = rest-same ends (manner_now ws calls next w) w.at refl in
+      let rest : rest_now more ws (call_done w next more) ≡ (levels_now ws w).rest = rest-same ends (manner_now ws calls next w) refl in
       record { deep = ends.deep; rest = rw e at rest; forward = ends.forward; next = fits; items = refl; depth = refl }
 
   module _ (going : w.more ≡ true) where

@@ -20,13 +20,16 @@ use Rattle.tape_words.specs.declared.tape.Item.{Item}
 use Rattle.tape_words.specs.declared.tape.Item.TheVariants.{Byte, Symbol, Part, Call, Pass, Close, Unclosed, Stop}
 use Rattle.code_patterns.specs.declared.pattern.Lengths.{Lengths}
 use Rattle.code_patterns.specs.declared.pattern.Pattern.{Pattern}
+use Rattle.code_patterns.specs.declared.symbols.Symbol.{Symbol as SVariable}
+use Rattle.code_patterns.specs.Testing.{held}
 use Rattle.code_actions.specs.declared.spans.Stand.{Stand}
 use Rattle.code_expressions.specs.declared.expression.Walk.{Walk}
 use Rattle.code_expressions.specs.declared.expression.Manner.{Manner}
 use Rattle.code_expressions.specs.declared.expression.Manner.TheVariants.{Emits, Computes, Replaces, Nests}
 use Rattle.tape_words.specs.Words.{carried, head_name, head_names, item_at}
 use Rattle.code_expressions.specs.Levels.{place_in, Levels, levels_ended, on_current, first_of, others_of, level_opened, item_by, levels_in}
-use Rattle.code_words.specs.Writing.{Wrote, Same}
+use Rattle.code_words.specs.declared.CodeWriter.{CodeWriter}
+use Rattle.code_words.specs.Writer.{Written, StillToWrite}
 use Rattle.tape_words.specs.Finding.{number_among}
 use Rattle.code_patterns.specs.Measuring.{flag, first_part_or}
 use Rattle.code_actions.specs.ActionWords.{span_words, part_words, rest_word, left_words}
@@ -36,8 +39,8 @@ use Rattle.code_expressions.specs.Resuming.{call_words}
 use Rattle.code_expressions.specs.Resuming.{manner_now, continues, ending_words, past_ending, past_name, is_first, stays, all_done, Means, InItems}
 use Rattle.code_expressions.specs.Resuming.{Innermost, call_end_words, item_words, last_words, ItemsOn, ItemsAll}
 use Rattle.tape_words.proofs.Laws.Names.{name-here, name-fits-here, name-short}
-use Rattle.code_expressions.proofs.Laws.Naming.{value-among, number-among}
-use Rattle.code_words.proofs.Laws.Stores.{same_refl, same-trans, same-words, same-wrote, same_end}
+use Rattle.code_expressions.proofs.Laws.Naming.{number-among, value-held}
+use Rattle.code_words.proofs.Laws.Writers.{still_refl, still-trans, still-words, still-wrote, still_end}
 use Rattle.code_actions.proofs.Spanned.{rest-span, passage-spans, ends_same}
 use Rattle.code_expressions.proofs.Laws.Items.{stops, Reads, Told, told, levels-at, levels-past, levels-stop}
 use Rattle.code_expressions.proofs.Laws.Resumed.{resume-character, resume-symbol, resume-part, resume-call, resume-end, resume-last, open_more}
@@ -72,7 +75,7 @@ left_passed {ws} {calls} m {w} within on-tape few left =
     none_more false h = refl
 
 -- `it` is the item where a walk stands
-module _ (ws heads names : List ℕ) (m : Pattern) (calls : List ℕ) (w : Walk) (within : InItems ws calls w) {it : Item}
+module _ (ws heads : List ℕ) (symbols : List SVariable) (m : Pattern) (calls : List ℕ) (w : Walk) (within : InItems ws calls w) {it : Item}
     (is : it ≡ item_at (drop w.next ws) w.depth w.items) where
   tells : (k : Item) → it ≡ k → Told ws w.next w.depth w.items k
   tells k e = told ws w.next w.depth w.items k (sym is ∙ e)
@@ -93,32 +96,32 @@ module _ (ws heads names : List ℕ) (m : Pattern) (calls : List ℕ) (w : Walk)
   after n = levels_in w.depth (w.items + 1) 0 (drop (w.next + 1 + n) ws)
 
   -- an item of so many words after its first is written, and leads to those levels
-  item_on : {code code' words calls' : List ℕ} {r : Walk} {depth : ℕ} {stand : Stand} (n : ℕ) → Reads ws w.next w.items →
+  item_on : {code code' : CodeWriter} {words calls' : List ℕ} {r : Walk} {depth : ℕ} {stand : Stand} (n : ℕ) → Reads ws w.next w.items →
       w.next + 1 + n ≤ length ws
-      → (levels_now ws w).rest ≡ (levels_now ws (item_done w n r.at depth stand)).rest
-      → ((t : Table) (s : Shape) (ss : List (Named Site)) → Means ws heads names m t s ss
-      → remaining true t s ss ws calls w ≡ words ++ remaining true t s ss ws calls' (item_done w n r.at depth stand))
-      → Wrote code w.at words code' r.at → r ≡ item_done w n r.at depth stand
+      → (levels_now ws w).rest ≡ (levels_now ws (item_done w n depth stand)).rest
+      → ((t : Table) (s : Shape) (ss : List (Named Site)) → Means ws heads symbols m t s ss
+      → remaining true t s ss ws calls w ≡ words ++ remaining true t s ss ws calls' (item_done w n depth stand))
+      → Written code words code' → r ≡ item_done w n depth stand
       → length calls' ≡ 16 → ((k : ℕ) → k < depth → get_or calls' k 0 < length ws) → depth ≤ 16
       → depth ≤ w.depth + 1 → length words + call_end_words * depth ≤ call_end_words * w.depth + item_words
-      → ItemsOn ws heads names m calls code w calls' code' r
+      → ItemsOn ws heads symbols m calls code w calls' code' r
   item_on {code} n read fits rest same wrote done long known deep one few =
       rw done record {
-        same = λ t s ss means. same-wrote _ (same-words (same_refl code w.at _) (same t s ss means)) wrote;
+        same = λ t s ss means. still-wrote _ (still-words (still_refl code _) (same t s ss means)) wrote;
         rest = sym rest;
         within = record { room = long; opened = known; depth = deep; items = omega (arith, read.room); next = omega arith };
         ahead = omega arith;
-        grown = omega (arith, wrote.next);
+        grown = omega (arith, wrote.put.next);
       }
 
   -- one that opens no call
-  plain-on : {code code' words : List ℕ} {r : Walk} {stand : Stand} (item : Expression → Expression) (n : ℕ) → Reads ws w.next w.items
+  plain-on : {code code' : CodeWriter} {words : List ℕ} {r : Walk} {stand : Stand} (item : Expression → Expression) (n : ℕ) → Reads ws w.next w.items
       → w.next + 1 + n ≤ length ws → levels_now ws w ≡ on_current item (after n)
-      → ((t : Table) (s : Shape) (ss : List (Named Site)) → Means ws heads names m t s ss
+      → ((t : Table) (s : Shape) (ss : List (Named Site)) → Means ws heads symbols m t s ss
       → pack_actions (resume t s ss (open_names ws calls w.depth) (item (after n).current) (after n).outer (meant_stand w.stand))
-      ≡ words ++ remaining true t s ss ws calls (item_done w n r.at w.depth stand))
-      → Wrote code w.at words code' r.at → r ≡ item_done w n r.at w.depth stand → length words ≤ item_words
-      → ItemsOn ws heads names m calls code w calls code' r
+      ≡ words ++ remaining true t s ss ws calls (item_done w n w.depth stand))
+      → Written code words code' → r ≡ item_done w n w.depth stand → length words ≤ item_words
+      → ItemsOn ws heads symbols m calls code w calls code' r
   plain-on item n read fits now same wrote done few =
       item_on n read fits (ap (λ (l : Levels). l.rest) now) (λ t s ss means. rw now (same t s ss means)) wrote done within.room within.opened
       within.depth (omega arith) (omega arith)
@@ -132,8 +135,8 @@ module _ (ws heads names : List ℕ) (m : Pattern) (calls : List ℕ) (w : Walk)
   variable-now variable read now =
       now ∙ rw (levels-past w.depth (w.items + 1) ws w.next read.inside, ← (name-here ws w.next read.inside))
 
-  pub character-on : {code code' : List ℕ} {r : Walk} → it ≡ Byte → Wrote code w.at (code_word 8 (get_or ws w.next 0) 0 0 ∷ []) code' r.at
-      → r ≡ item_done w 0 r.at w.depth w.stand → ItemsOn ws heads names m calls code w calls code' r
+  pub character-on : {code code' : CodeWriter} {r : Walk} → it ≡ Byte → Written code (code_word 8 (get_or ws w.next 0) 0 0 ∷ []) code'
+      → r ≡ item_done w 0 w.depth w.stand → ItemsOn ws heads symbols m calls code w calls code' r
   unfolding pack_actions
   character-on e wrote done =
       let read = (tells Byte e).0 in
@@ -145,24 +148,23 @@ module _ (ws heads names : List ℕ) (m : Pattern) (calls : List ℕ) (w : Walk)
       (meant_stand w.stand)))
       wrote done (omega arith)
 
-  pub value_on : {code code' : List ℕ} {r : Walk} → it ≡ Symbol
-      → Wrote code w.at (code_word 9 (number_among 0 (head_names ws names) name - 1) 0 0 ∷ []) code' r.at
-      → r ≡ item_done w size r.at w.depth w.stand → ItemsOn ws heads names m calls code w calls code' r
+  pub value_on : {code code' : CodeWriter} {r : Walk} → it ≡ Symbol
+      → Written code (code_word 9 (value_number (held ws symbols) name) 0 0 ∷ []) code'
+      → r ≡ item_done w size w.depth w.stand → ItemsOn ws heads symbols m calls code w calls code' r
   unfolding pack_actions
   value_on e wrote done =
       let read = tells Symbol e in
       let now = variable-now then_symbol read (reads Symbol read.inside e) in
       plain-on (then_symbol name) size read (name-fits-here ws w.next read.inside) now
       (λ t s ss means.
-      let value : value_number ss name ≡ number_among 0 (head_names ws names) name - 1 =
-      value-among 0 ss name ∙ ap (λ (l : List Name). number_among 0 l name - 1) means.symbols in
+      let value : value_number ss name ≡ value_number (held ws symbols) name = value-held ws ss symbols name means.known in
       ap pack_actions (resume-symbol t s ss (open_names ws calls w.depth) name (after size).current (after size).outer (meant_stand w.stand))
       ∙ ap (λ (v : ℕ). code_word 9 v 0 0 ∷ pack_actions (resume t s ss (open_names ws calls w.depth) (after size).current (after size).outer
       (meant_stand w.stand))) value)
       wrote done (omega arith)
 
   -- the number of the innermost open call's function
-  number_same : (t : Table) (s : Shape) (ss : List (Named Site)) → Means ws heads names m t s ss
+  number_same : (t : Table) (s : Shape) (ss : List (Named Site)) → Means ws heads symbols m t s ss
       → number_of t (called ws calls w) ≡ number_among 0 (head_names ws heads) (called ws calls w)
   number_same t s ss means =
       let n = called ws calls w in
@@ -175,7 +177,7 @@ module _ (ws heads names : List ℕ) (m : Pattern) (calls : List ℕ) (w : Walk)
   abbrev past : Walk
   past = past_name ws w
 
-  module _ (t : Table) (s : Shape) (ss : List (Named Site)) (means : Means ws heads names m t s ss) where
+  module _ (t : Table) (s : Shape) (ss : List (Named Site)) (means : Means ws heads symbols m t s ss) where
     abbrev way : Passage
     way = passage s name (meant_stand w.stand)
 
@@ -192,8 +194,8 @@ module _ (ws heads names : List ℕ) (m : Pattern) (calls : List ℕ) (w : Walk)
         let h = head_name ws m.variable in
         let f : first ≡ same_bytes name (first_part_or h s) = ap (same_bytes name) means.variable in
         let spans = passage-spans s name h st in (
-          ap₂ (λ (l : Lengths) (b : Bool). span_words 5 (gap_by l.parts l b st)) means.lengths f ∙ ap (span_words 5) spans.0,
-          ap₂ (λ (l : Lengths) (b : Bool). span_words 6 (piece_span l.parts l b)) means.lengths f ∙ ap (span_words 6) spans.1,
+          ap₂ (λ (l : Lengths) (b : Bool). span_words 5 (gap_by l.parts l b st)) means.lengths f ∙ ap (span_word 5) spans.0,
+          ap₂ (λ (l : Lengths) (b : Bool). span_words 6 (piece_span l.parts l b)) means.lengths f ∙ ap (span_word 6) spans.1,
           ap₂ (λ (l : Lengths) (b : Bool). meant_stand (stand_after l.parts b st)) means.lengths f ∙ spans.2,
           ap₂ (λ (l : Lengths) (b : Bool). ends_by l.parts l b) means.lengths f ∙ ends_same s name h,
         )
@@ -214,9 +216,9 @@ module _ (ws heads names : List ℕ) (m : Pattern) (calls : List ℕ) (w : Walk)
         ∙ ap (λ (o : Option ℕ). where_left o way
         (go way.gap ∷ select way.piece ∷ out ∷ resume t s ss outer-names (after size).current (after size).outer way.after)) part_left
 
-  pub part-on : {b : Bool} {code code' : List ℕ} {r : Walk} → it ≡ Part → b ≡ stays ws calls m w → b ≡ false
-      → Wrote code w.at (part_words m.lengths first w.stand) code' r.at
-      → r ≡ item_done w size r.at w.depth (stand_after m.lengths.parts first w.stand) → ItemsOn ws heads names m calls code w calls code' r
+  pub part-on : {b : Bool} {code code' : CodeWriter} {r : Walk} → it ≡ Part → b ≡ stays ws calls m w → b ≡ false
+      → Written code (part_words m.lengths first w.stand) code'
+      → r ≡ item_done w size w.depth (stand_after m.lengths.parts first w.stand) → ItemsOn ws heads symbols m calls code w calls code' r
   unfolding pack_actions
   part-on e asked moves wrote done =
       let read = tells Part e in
@@ -227,9 +229,9 @@ module _ (ws heads names : List ℕ) (m : Pattern) (calls : List ℕ) (w : Walk)
       rw (part-resumed t s ss means, ← asked, moves, spans.0, spans.1, spans.2))
       wrote done (omega arith)
 
-  pub left-on : {b : Bool} {code code' : List ℕ} {r : Walk} → it ≡ Part → b ≡ stays ws calls m w → b ≡ true
-      → Wrote code w.at (left_words m.lengths first w.stand (number_among 0 (head_names ws heads) (called ws calls w))) code' r.at
-      → r ≡ all_done (past_ending ws calls past) r.at → ItemsOn ws heads names m calls code w calls code' r
+  pub left-on : {b : Bool} {code code' : CodeWriter} {r : Walk} → it ≡ Part → b ≡ stays ws calls m w → b ≡ true
+      → Written code (left_words m.lengths first w.stand (number_among 0 (head_names ws heads) (called ws calls w))) code'
+      → r ≡ all_done (past_ending ws calls past) → ItemsOn ws heads symbols m calls code w calls code' r
   unfolding pack_actions
   left-on {code = code} e asked left wrote done =
       let read = tells Part e in
@@ -238,8 +240,8 @@ module _ (ws heads names : List ℕ) (m : Pattern) (calls : List ℕ) (w : Walk)
       rw done record {
         same = λ t s ss means.
             let spans = part-spans t s ss means in
-            same-wrote []
-            (same-words (same_refl code w.at _)
+            still-wrote []
+            (still-words (still_refl code _)
             (rw (now, part-resumed t s ss means, ← asked, left, number_same t s ss means, spans.0, spans.1)))
             wrote;
         rest = gone.rest ∙ sym (ap (λ (l : Levels). l.rest) now);
@@ -252,12 +254,12 @@ module _ (ws heads names : List ℕ) (m : Pattern) (calls : List ℕ) (w : Walk)
               next = gone.next;
             };
         ahead = omega (arith, gone.forward, gone.depth, gone.deep);
-        grown = omega (arith, wrote.next, gone.depth, gone.deep, gone.items);
+        grown = omega (arith, wrote.put.next, gone.depth, gone.deep, gone.items);
       }
 
-  pub open-on : {calls' code code' : List ℕ} {r : Walk} → it ≡ Call → Wrote code w.at (code_word 10 0 0 0 ∷ []) code' r.at
-      → r ≡ item_done w size r.at (w.depth + 1) w.stand → calls' ≡ set calls w.depth w.next
-      → ItemsOn ws heads names m calls code w calls' code' r
+  pub open-on : {calls' : List ℕ} {code code' : CodeWriter} {r : Walk} → it ≡ Call → Written code (code_word 10 0 0 0 ∷ []) code'
+      → r ≡ item_done w size (w.depth + 1) w.stand → calls' ≡ set calls w.depth w.next
+      → ItemsOn ws heads symbols m calls code w calls' code' r
   unfolding pack_actions
   open-on e wrote done more =
       let (read, deep) = tells Call e in
@@ -278,16 +280,16 @@ module _ (ws heads names : List ℕ) (m : Pattern) (calls : List ℕ) (w : Walk)
         | no e ↦ rw (get_or-set_other calls w.depth k w.next 0 e) (within.opened k (omega arith))
       ]
 
-  rest-word : (t : Table) (s : Shape) (ss : List (Named Site)) → Means ws heads names m t s ss
+  rest-word : (t : Table) (s : Shape) (ss : List (Named Site)) → Means ws heads symbols m t s ss
       → rest_word m.lengths w.stand ≡ span_word 5 (rest_of s (meant_stand w.stand))
-  rest-word t s ss means = ap (λ (l : Lengths). rest_word l w.stand) means.lengths ∙ ap (span_words 5) (rest-span s w.stand)
+  rest-word t s ss means = ap (λ (l : Lengths). rest_word l w.stand) means.lengths ∙ ap (span_word 5) (rest-span s w.stand)
 
-  pub pass_on : {code : List ℕ} {r : Walk} → it ≡ Pass → r ≡ word_done w → ItemsOn ws heads names m calls code w calls code r
+  pub pass_on : {code : CodeWriter} {r : Walk} → it ≡ Pass → r ≡ word_done w → ItemsOn ws heads symbols m calls code w calls code r
   pass_on {code} e done =
       let inside = (tells Pass e).0.inside in
       let now = reads Pass inside e in
       rw done record {
-        same = λ t s ss means. same-words (same_refl code w.at _)
+        same = λ t s ss means. still-words (still_refl code _)
             (ap (λ (l : Levels). pack_actions (resume t s ss (open_names ws calls w.depth) l.current l.outer (meant_stand w.stand))) now);
         rest = sym (ap (λ (l : Levels). l.rest) now);
         within =
@@ -296,15 +298,15 @@ module _ (ws heads names : List ℕ) (m : Pattern) (calls : List ℕ) (w : Walk)
         grown = omega arith;
       }
 
-  pub end_on : {code code' : List ℕ} {r : Walk} → it ≡ Stop → Wrote code w.at (rest_word m.lengths w.stand ∷ 15 ∷ []) code' r.at
-      → r ≡ call_done w w.next r.at false → ItemsOn ws heads names m calls code w calls code' r
+  pub end_on : {code code' : CodeWriter} {r : Walk} → it ≡ Stop → Written code (rest_word m.lengths w.stand ∷ 15 ∷ []) code'
+      → r ≡ call_done w w.next false → ItemsOn ws heads symbols m calls code w calls code' r
   unfolding pack_actions open_names
   end_on {code} e wrote done =
       let none = tells Stop e in
       let now : levels_now ws w ≡ levels_ended (drop w.next ws) = levels-stop ws w.next w.depth w.items (ap stops (sym is ∙ e)) in
       rw done record {
-        same = λ t s ss means. same-wrote []
-            (same-words (same_refl code w.at _)
+        same = λ t s ss means. still-wrote []
+            (still-words (still_refl code _)
             (rw (now, none) (ap pack_actions (resume-last t s ss [] (meant_stand w.stand))
             ∙ ap (λ (v : ℕ). v ∷ 15 ∷ []) (sym (rest-word t s ss means)))))
             wrote;
@@ -318,7 +320,7 @@ module _ (ws heads names : List ℕ) (m : Pattern) (calls : List ℕ) (w : Walk)
               next = within.next;
             };
         ahead = omega arith;
-        grown = omega (arith, wrote.next);
+        grown = omega (arith, wrote.put.next);
       }
 
   -- A CALL ENDS
@@ -331,46 +333,47 @@ module _ (ws heads names : List ℕ) (m : Pattern) (calls : List ℕ) (w : Walk)
     manner = manner_now ws calls next w
 
     -- its words, and what comes after them
-    calling-words : (t : Table) (s : Shape) (ss : List (Named Site)) → Means ws heads names m t s ss → (k : Manner) (number : ℕ) (more : List Action)
+    calling-words : (t : Table) (s : Shape) (ss : List (Named Site)) → Means ws heads symbols m t s ss
+        → (k : Manner) (number : ℕ) (more : List Action)
         → pack_actions (calling s (meant k) number name-called (meant_stand w.stand) more)
         ≡ call_words k m.lengths w.stand number name-called ++ pick (continues k) (pack_actions more) []
     unfolding pack_actions
     calling-words t s ss means Emits number more = refl
-    calling-words t s ss means (Computes subtract) number more = refl
+    calling-words t s ss means (Computes op) number more = refl
     calling-words t s ss means Replaces number more = rw (rest-word t s ss means)
     calling-words t s ss means Nests number more = refl
 
     -- they are not many
     words-short : (k : Manner) (number : ℕ) → length (call_words k m.lengths w.stand number name-called) ≤ call_end_words
     words-short Emits number = omega (arith, name-short ws (get_or calls (w.depth - 1) 0))
-    words-short (Computes subtract) number = omega arith
+    words-short (Computes op) number = omega arith
     words-short Replaces number = omega arith
     words-short Nests number = omega arith
 
     -- what is still to come once it is done
-    more_same : (t : Table) (s : Shape) (ss : List (Named Site)) (b : Bool) (at : ℕ)
+    more_same : (t : Table) (s : Shape) (ss : List (Named Site)) (b : Bool)
         → pick b (pack_actions (resume t s ss (open_names ws calls (w.depth - 1)) (first_of outer) (others_of outer) (meant_stand w.stand))) []
-        ≡ remaining b t s ss ws calls (call_done w next at b)
-    more_same t s ss true at = rw (ends.first, ends.others)
-    more_same t s ss false at = refl
+        ≡ remaining b t s ss ws calls (call_done w next b)
+    more_same t s ss true = rw (ends.first, ends.others)
+    more_same t s ss false = refl
 
-    close-on : {code code' : List ℕ} {r : Walk} → Wrote code w.at (ending_words ws heads m.lengths calls next w) code' r.at
-        → r ≡ call_done w next r.at (continues manner) → ItemsOn ws heads names m calls code w calls code' r
+    close-on : {code code' : CodeWriter} {r : Walk} → Written code (ending_words ws heads m.lengths calls next w) code'
+        → r ≡ call_done w next (continues manner) → ItemsOn ws heads symbols m calls code w calls code' r
     close-on {code} {r = r} wrote done =
         rw done record {
           same = λ t s ss means.
               let st = meant_stand w.stand in
               let more = resume t s ss (open_names ws calls (w.depth - 1)) (first_of outer) (others_of outer) st in
-              same-wrote _
-              (same-words (same_refl code w.at _)
+              still-wrote _
+              (still-words (still_refl code _)
               (rw (ends.now, open-less ws calls w.depth ends.deep)
               (ap pack_actions (resume-end t s ss name-called (open_names ws calls (w.depth - 1)) outer st)
               ∙ ap₂ (λ (k : MeantManner) (f : ℕ). pack_actions (calling s k f name-called st more)) (manner-same ws calls w ends t)
               (number_same t s ss means)
               ∙ calling-words t s ss means manner (number_among 0 (head_names ws heads) name-called) more
-              ∙ ap (λ (r : Words). ending_words ws heads m.lengths calls next w ++ r) (more_same t s ss (continues manner) r.at))))
+              ∙ ap (λ (r : Words). ending_words ws heads m.lengths calls next w ++ r) (more_same t s ss (continues manner)))))
               wrote;
-          rest = rest-same ws calls w ends manner r.at refl;
+          rest = rest-same ws calls w ends manner refl;
           within =
               record {
                 room = within.room;
@@ -380,49 +383,51 @@ module _ (ws heads names : List ℕ) (m : Pattern) (calls : List ℕ) (w : Walk)
                 next = fits;
               };
           ahead = omega (arith, flag_small (continues manner), ends.deep, ends.forward);
-          grown = omega (arith, wrote.next, ends.deep, words-short manner (number_among 0 (head_names ws heads) name-called));
+          grown = omega (arith, wrote.put.next, ends.deep, words-short manner (number_among 0 (head_names ws heads) name-called));
         }
       where
         flag_small : (b : Bool) → flag b ≤ 1
         flag_small true = omega arith
         flag_small false = omega arith
 
-  pub closed_on : {code code' : List ℕ} {r : Walk} → it ≡ Close
-      → Wrote code w.at (ending_words ws heads m.lengths calls (w.next + 1) w) code' r.at
-      → r ≡ call_done w (w.next + 1) r.at (continues (manner_now ws calls (w.next + 1) w)) → ItemsOn ws heads names m calls code w calls code' r
+  pub closed_on : {code code' : CodeWriter} {r : Walk} → it ≡ Close
+      → Written code (ending_words ws heads m.lengths calls (w.next + 1) w) code'
+      → r ≡ call_done w (w.next + 1) (continues (manner_now ws calls (w.next + 1) w)) → ItemsOn ws heads symbols m calls code w calls code' r
   closed_on e wrote done = close-on (closed-ends ws calls w (sym is ∙ e)) (omega (arith, (tells Close e).0)) wrote done
 
-  pub unclosed-on : {code code' : List ℕ} {r : Walk} → it ≡ Unclosed
-      → Wrote code w.at (ending_words ws heads m.lengths calls w.next w) code' r.at
-      → r ≡ call_done w w.next r.at (continues (manner_now ws calls w.next w)) → ItemsOn ws heads names m calls code w calls code' r
+  pub unclosed-on : {code code' : CodeWriter} {r : Walk} → it ≡ Unclosed
+      → Written code (ending_words ws heads m.lengths calls w.next w) code'
+      → r ≡ call_done w w.next (continues (manner_now ws calls w.next w)) → ItemsOn ws heads symbols m calls code w calls code' r
   unclosed-on e wrote done = close-on (unclosed-ends ws calls w (sym is ∙ e)) within.next wrote done
 
 -- ALL OF THEM
 
 -- what is written so far and what is still to be written are the whole expression's actions
-pub record ItemsSoFar (ws heads names : List ℕ) (m : Pattern) (start at : ℕ) (code₀ calls code : List ℕ) (w : Walk) : Type 0 where
-  pub same : (t : Table) (s : Shape) (ss : List (Named Site)) → Means ws heads names m t s ss
-      → Same code₀ at (pack_actions (actions_of t s ss (levels_in 0 0 0 (drop start ws)).current)) code w.at (remaining w.more t s ss ws calls w)
+pub record ItemsSoFar (ws heads : List ℕ) (symbols : List SVariable) (m : Pattern) (start : ℕ) (code₀ : CodeWriter) (calls : List ℕ)
+    (code : CodeWriter) (w : Walk) : Type 0 where
+  pub same : (t : Table) (s : Shape) (ss : List (Named Site)) → Means ws heads symbols m t s ss
+      → StillToWrite code₀ (pack_actions (actions_of t s ss (levels_in 0 0 0 (drop start ws)).current)) code (remaining w.more t s ss ws calls w)
   pub rest : rest_now w.more ws w ≡ (levels_in 0 0 0 (drop start ws)).rest
   pub within : InItems ws calls w
-  pub grown : w.at + call_end_words * w.depth ≤ at + item_words * w.items + last_words * (1 - flag w.more)
+  pub grown : code.at + call_end_words * w.depth ≤ code₀.at + item_words * w.items + last_words * (1 - flag w.more)
 
-pub items-go-on : {ws heads names : List ℕ} {m : Pattern} {start at : ℕ} {code₀ calls code calls' code' : List ℕ} {w r : Walk}
-    → ItemsSoFar ws heads names m start at code₀ calls code w → w.more ≡ true → ItemsOn ws heads names m calls code w calls' code' r
-    → ItemsSoFar ws heads names m start at code₀ calls' code' r
+pub items-go-on : {ws heads : List ℕ} {symbols : List SVariable} {m : Pattern} {start : ℕ} {calls calls' : List ℕ}
+    {code₀ code code' : CodeWriter} {w r : Walk}
+    → ItemsSoFar ws heads symbols m start code₀ calls code w → w.more ≡ true → ItemsOn ws heads symbols m calls code w calls' code' r
+    → ItemsSoFar ws heads symbols m start code₀ calls' code' r
 items-go-on s e o =
     record {
-      same = λ t sh ss means. same-trans (rw e at (s.same t sh ss means)) (o.same t sh ss means);
+      same = λ t sh ss means. still-trans (rw e at (s.same t sh ss means)) (o.same t sh ss means);
       rest = o.rest ∙ (rw e at s.rest);
       within = o.within;
       grown = omega (arith, rw e at s.grown, o.grown);
     }
 
-pub items-all : {ws heads names : List ℕ} {m : Pattern} {start at : ℕ} {code₀ calls code : List ℕ} {w : Walk}
-    → ItemsSoFar ws heads names m start at code₀ calls code w → w.more ≡ false → ItemsAll ws heads names m start code₀ at code w
+pub items-all : {ws heads : List ℕ} {symbols : List SVariable} {m : Pattern} {start : ℕ} {calls : List ℕ} {code₀ code : CodeWriter} {w : Walk}
+    → ItemsSoFar ws heads symbols m start code₀ calls code w → w.more ≡ false → ItemsAll ws heads symbols m start code₀ code w
 items-all s e =
     record {
-      wrote = λ t sh ss means. same_end (rw e at (s.same t sh ss means));
+      wrote = λ t sh ss means. still_end (rw e at (s.same t sh ss means));
       rest = rw e at s.rest;
       next = s.within.next;
       grown = omega (arith, rw e at s.grown, s.within.items);

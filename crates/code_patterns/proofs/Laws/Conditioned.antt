@@ -1,42 +1,36 @@
--- Laws of writing conditions, and of the stores: each step keeps what the words come to.
-use Prim.Native.Nat.{ℕ, zero, suc, ◌+◌, ◌-◌, ◌*◌, ◌/◌, ◌%◌, ◌≤◌, ◌<◌}
+-- Laws of writing conditions: each step keeps what the words come to.
+use Prim.Native.Nat.{ℕ, zero, suc, ◌+◌, ◌/◌, ◌%◌, ◌≤◌, ◌<◌}
 use native.Mathlib.Omega.{arith}
 use mathlib.Core.Path.{◌≡◌, refl, sym, ap, ◌∙◌}
 use mathlib.Core.Bool.{Bool, true, false}
 use mathlib.Core.List.{List, [], ◌∷◌}
-use lib.Dec.{eqb, leb, ltb}
+use lib.Dec.{leb, ltb}
 use lib.ListN.{length, take, drop, get_or, drop_of_length-le, get_or-eq_default}
 use lib.Seq.{drop-drop}
 use borrow.Author.Tests.{eq-eqb, ne_eqb, le-leb, lt-leb, leb-false}
-use native.Mathlib.Decide.{ℕ_discrete}
+use Rattle.std.specs.Prelude.{Option, None, Some, unwrap_or}
+use mathlib.Core.Option.{Option as Found}
 use Rattle.meaning.specs.Choice.{Name, pick, same_bytes, lookup}
-use Rattle.meaning.specs.Classes.{class_number}
 use Rattle.meaning.specs.Tree.{Condition}
-use Rattle.meaning.specs.Instructions.{predicate}
+use Rattle.meaning.specs.Instructions.{Site as MeantSite, from_start, predicate}
 use Rattle.meaning.specs.Translation.{site_or, Bounds, part_test}
-use Rattle.meaning.specs.Allowed.{max_letters, max_conditions}
-use Rattle.meaning.specs.Packing.{store_number, truth_bit, test_word}
-use Rattle.code_numbers.specs.Numbers.{first}
-use Rattle.tape_layout.specs.Tape.{class_count, condition_truth, condition_part, condition_word, equals_word}
-use Rattle.tape_words.specs.declared.tape.Parts.{Parts}
-use Rattle.tape_words.specs.declared.tape.Parts.TheVariants.{Zero, One, Two}
-use Rattle.code_patterns.specs.declared.pattern.Lengths.{Lengths}
-use Rattle.code_patterns.specs.declared.pattern.Pattern.{Pattern}
+use Rattle.meaning.specs.Allowed.{max_conditions}
+use Rattle.meaning.specs.Packing.{test_word}
+use Rattle.tape_layout.specs.Tape.{class_count, condition_part, condition_word, equals_word}
+use Rattle.code_patterns.specs.declared.sites.Site.{Site}
 use Rattle.code_patterns.specs.declared.bounds.PartBounds.{PartBounds}
 use Rattle.code_patterns.specs.declared.conditions.Conditions.{Conditions}
-use Rattle.tape_words.specs.Words.{carried, head_names, is_condition_word, class_in}
+use Rattle.tape_words.specs.Words.{carried, is_condition_word, class_in}
 use Rattle.code_patterns.specs.Scans.{Scan, scanned, prepended, condition_of, condition_in, condition_by, conditions_on_tape}
-use Rattle.code_words.specs.Writing.{Wrote, Same}
-use Rattle.tape_words.specs.Finding.{number_among}
-use Rattle.code_patterns.specs.Testing.{site_number, site_numbers, SmallSite, IsSite, store_of_site, found_site, held, total}
-use Rattle.code_patterns.specs.Conditioning.{cell_test_word, part_test_word}
-use Rattle.code_patterns.specs.Conditioning.{Located, located, Kept, bounds_in, bounds_by, condition_test_by, condition_at, coming}
-use Rattle.code_patterns.specs.Conditioning.{condition_words, condition_done, conditions_done, InConditions, ConditionsOn, ConditionsAll}
+use Rattle.code_words.specs.declared.CodeWriter.{CodeWriter}
+use Rattle.code_words.specs.Writer.{Written, StillToWrite}
+use Rattle.code_patterns.specs.Testing.{site_meant, site_found, expected_in}
+use Rattle.code_patterns.specs.Conditioning.{Located, bounds_meant, bounds_by, condition_test_by, condition_at, coming}
+use Rattle.code_patterns.specs.Conditioning.{condition_words, condition_done, InConditions, ConditionsOn, ConditionsAll}
 use Rattle.meaning.proofs.Laws.Remaining.{at_place}
 use Rattle.tape_words.proofs.Laws.Lists.{drop-again, reached, take_again}
 use Rattle.tape_words.proofs.Laws.Names.{by_place}
-use Rattle.code_words.proofs.Laws.Stores.{same_refl, same-trans, same-words, same-wrote, same_end}
-use Rattle.code_patterns.proofs.Laws.Held.{lookup-none, lookup-some}
+use Rattle.code_words.proofs.Laws.Writers.{still_refl, still-trans, still-words, still-wrote, still_end}
 
 -- READING
 
@@ -87,156 +81,103 @@ condition-by-word ws i count h e f =
 
 -- ITS WORD
 
-class-number : (n : ℕ) → n < class_count → class_number (class_in n) ≡ n
-class-number zero h = refl
-class-number (suc zero) h = refl
-class-number (suc (suc zero)) h = refl
-class-number (suc (suc (suc zero))) h = refl
-class-number (suc (suc (suc (suc zero)))) h = refl
-class-number (suc (suc (suc (suc (suc n))))) h = absurd (omega arith)
+-- the test of a condition on an e-variable, and on an s-variable, from what the code worked out
+module _ (known : Located) (n : ℕ) (x : Name) where
+  pub part-asked : (b : PartBounds) {is : Bool} {r : ℕ} → n / condition_part % 2 ≡ 1 → is ≡ same_bytes x known.variable
+      → bounds_meant b ≡ bounds_by known.lengths.parts known.lengths is
+      → r ≡ test_word (part_test (bounds_meant b) (class_in (n % class_count)) (expected_in n))
+      → r ≡ test_word (condition_test_by known (condition_of n x))
+  part-asked b k is f e =
+      e ∙ ap (λ (x : Bounds). test_word (part_test x (class_in (n % class_count)) (expected_in n))) f ∙ rw (eq-eqb (n / condition_part % 2) 1 k, ← is)
 
-truth-bit : (n : ℕ) → n < 2 → truth_bit (eqb n 1) ≡ n
-truth-bit zero h = refl
-truth-bit (suc zero) h = refl
-truth-bit (suc (suc n)) h = absurd (omega arith)
+  pub symbol-asked : (s : Site) {r : ℕ} → (n / condition_part % 2 ≡ 1 → ⊥) → site_meant s ≡ site_or (lookup x known.sites)
+      → r ≡ test_word (predicate (site_meant s) (class_in (n % class_count)) (expected_in n))
+      → r ≡ test_word (condition_test_by known (condition_of n x))
+  symbol-asked s k f e =
+      e ∙ ap (λ (x : MeantSite). test_word (predicate x (class_in (n % class_count)) (expected_in n))) f ∙ rw (ne_eqb (n / condition_part % 2) 1 k)
 
--- the bounds of a part fit a word's operands
-pub bounds-small : (l : Lengths) (first : Bool) {b : PartBounds} → total l ≤ max_letters → b ≡ bounds_in (bounds_by l.parts l first)
-    → SmallSite b.from × SmallSite b.to
-bounds-small l first h e = rw e (by_parts l.parts first)
-  where
-    by_parts : (p : Parts) (first : Bool) → let b = bounds_by p l first in
-        SmallSite (site_numbers b.from) × SmallSite (site_numbers b.to)
-    by_parts Zero first = omega arith
-    by_parts One first = omega arith
-    by_parts Two true = omega arith
-    by_parts Two false = omega arith
-
-part-word : (b : Bounds) (n : ℕ)
-    → part_test_word (site_numbers b.from) (site_numbers b.to) n ≡ test_word
-    (part_test b (class_in (n % class_count)) (eqb (n / condition_truth % 2) 1))
-part-word b n = omega (arith, class-number (n % class_count) (omega arith), truth-bit (n / condition_truth % 2) (omega arith))
-
--- the test of a condition on an e-variable, from what the code worked out
-pub part-asked : (known : Located) (n : ℕ) (x : Name) {first : Bool} {b : PartBounds} {r : ℕ} → n / condition_part % 2 ≡ 1
-    → first ≡ same_bytes x known.variable → b ≡ bounds_in (bounds_by known.lengths.parts known.lengths first)
-    → r ≡ part_test_word b.from b.to n
-    → r ≡ test_word (condition_test_by known (condition_of n x))
-part-asked known n x {first} k is f e =
-    e ∙ rw (f, eq-eqb (n / condition_part % 2) 1 k, ← is) (part-word (bounds_by known.lengths.parts known.lengths first) n)
-
-module _ (ws : List ℕ) (m : Pattern) (names sites : List ℕ) (symbols : ℕ) (kept : Kept m names sites symbols) (x : Name) where
-  abbrev found : ℕ
-  found = number_among 0 (head_names ws (take symbols names)) x
-
-  -- the cell of a condition's s-variable, by the number that it is kept as
-  found_number : found ≤ symbols → site_number (site_or (lookup x (held ws names sites symbols))) ≡ found_site found sites
-  found_number h = elim (ℕ_discrete found 0) [
-    | yes e ↦ rw (lookup-none ws names sites symbols x kept.name_room kept.site_room e, eq-eqb found 0 e)
-    | no e ↦ rw (lookup-some ws names sites symbols x kept.name_room kept.site_room e h, ne_eqb found 0 e) (kept.good (found - 1)).same
-  ]
-
-  symbol-word : (n : ℕ) → found ≤ symbols → cell_test_word (found_site found sites) n
-      ≡ test_word (predicate (site_or (lookup x (held ws names sites symbols))) (class_in (n % class_count)) (eqb (n / condition_truth % 2) 1))
-  symbol-word n h = omega (arith, found_number h, class-number (n % class_count) (omega arith), truth-bit (n / condition_truth % 2) (omega arith))
-
-  -- the same on an s-variable
-  pub symbol-asked : (n : ℕ) {number site r : ℕ} → (n / condition_part % 2 ≡ 1 → ⊥) → number ≡ found → number ≤ symbols
-      → site ≡ found_site number sites
-      → r ≡ cell_test_word site n
-      → r ≡ test_word (condition_test_by (located ws m names sites symbols) (condition_of n x))
-  symbol-asked n k en h es e = e ∙ rw (es, en, ne_eqb (n / condition_part % 2) 1 k) (symbol-word n (rw (← en) h))
+-- p's own cell, where no s-variable has the name
+pub site-or : (found : Option Site) (s : Site) {o : Found MeantSite} → site_found found ≡ o → site_meant s ≡ from_start 0
+    → site_meant (unwrap_or found s) ≡ site_or o
+site-or None s e h = rw (← e) h
+site-or (Some r) s e h = rw (← e) refl
 
 -- THE STEPS
 
 -- a condition stands on the tape, and so does its variable's name
-pub condition-told : {ws : List ℕ} {c : Conditions} → InConditions ws c → condition_at c.count (drop c.next ws) ≡ true → (n : ℕ)
+pub condition-told : {ws : List ℕ} {c : Conditions} {at : ℕ} → InConditions ws c at → condition_at c.count (drop c.next ws) ≡ true → (n : ℕ)
     → (c.next < length ws) × (c.next + 1 + length (take n (drop (c.next + 1) ws)) ≤ length ws)
 condition-told {ws} {c} within e n =
     let inside = condition-inside ws c.next c.count e in
     (inside, omega (arith, reached n (c.next + 1) ws))
 
-module _ (ws : List ℕ) (known : Located) (c : Conditions) (within : InConditions ws c) where
+module _ (ws : List ℕ) (known : Located) (c : Conditions) (w : CodeWriter) (within : InConditions ws c w.at) where
   abbrev here : ℕ
   here = get_or ws c.next 0
 
   abbrev name : Name
   name = take (carried here / 20) (drop (c.next + 1) ws)
 
-  pub condition-on : (code code' : List ℕ) (at : ℕ) → condition_at c.count (drop c.next ws) ≡ true
-      → Wrote code c.at (test_word (condition_test_by known (condition_of (carried here) name)) ∷ []) code' at
-      → ConditionsOn ws known code c code' (condition_done c (length name) at)
-  condition-on code code' at e wrote =
+  pub condition-on : (w' : CodeWriter) → condition_at c.count (drop c.next ws) ≡ true
+      → Written w (test_word (condition_test_by known (condition_of (carried here) name)) ∷ []) w'
+      → ConditionsOn ws known w c w' (condition_done c (length name))
+  condition-on w' e wrote =
       let (inside, fits) = condition-told within e (carried here / 20) in
       let room = condition-room ws c.next c.count e in
       let after : drop (carried here / 20) (drop (c.next + 1) ws) ≡ drop (c.next + 1 + length name) ws =
       sym (drop-again (carried here / 20) (drop (c.next + 1) ws)) ∙ drop-drop (length name) (c.next + 1) ws in
-      let now : coming true ws c ≡ prepended (condition_in here (drop (c.next + 1) ws)) (coming true ws (condition_done c (length name) at)) =
+      let now : coming ws c ≡ prepended (condition_in here (drop (c.next + 1) ws)) (coming ws (condition_done c (length name))) =
       conditions-at ws c.next c.count true inside e
       ∙ rw (conditions-skip (c.count + 1) (carried here / 20) (drop (c.next + 1) ws), after) in
       record {
-        same = same-wrote _ (same-words (same_refl code c.at _) (ap (condition_words known) now)) wrote;
+        same = still-wrote _ (still-words (still_refl w _) (ap (condition_words known) now)) wrote;
         rest = sym (ap (λ (s : Scan (List Condition)). s.rest) now);
-        within = record { count = omega arith; next = fits; at = omega (arith, wrote.next, within.at) };
+        within = record { count = omega arith; next = fits; place = omega (arith, wrote.put.next, within.place) };
         ahead = omega arith;
-        grown = omega (arith, wrote.next);
+        grown = omega (arith, wrote.put.next);
       }
 
   -- the same from what the code worked out
-  pub condition-written : {code code' : List ℕ} {at w size test : ℕ} → condition_at c.count (drop c.next ws) ≡ true → w ≡ here
-      → size ≡ length (take (carried w / 20) (drop (c.next + 1) ws))
-      → test ≡ test_word (condition_test_by known (condition_of (carried w) (take size (drop (c.next + 1) ws))))
-      → Wrote code c.at (test ∷ []) code' at → ConditionsOn ws known code c code' (condition_done c size at)
-  condition-written {code} {code'} {at} {w} {size} {test} e ew es et wrote =
+  pub condition-written : {w' : CodeWriter} {read size test : ℕ} → condition_at c.count (drop c.next ws) ≡ true → read ≡ here
+      → size ≡ length (take (carried read / 20) (drop (c.next + 1) ws))
+      → test ≡ test_word (condition_test_by known (condition_of (carried read) (take size (drop (c.next + 1) ws))))
+      → Written w (test ∷ []) w' → ConditionsOn ws known w c w' (condition_done c size)
+  condition-written {w'} {read} {size} {test} e ew es et wrote =
       let long : size ≡ length name = es ∙ ap (λ (v : ℕ). length (take (carried v / 20) (drop (c.next + 1) ws))) ew in
       let named : take size (drop (c.next + 1) ws) ≡ name =
       ap (λ (k : ℕ). take k (drop (c.next + 1) ws)) long ∙ take_again (carried here / 20) (drop (c.next + 1) ws) in
       let tested : test ≡ test_word (condition_test_by known (condition_of (carried here) name)) =
       et ∙ ap (λ (v : ℕ). test_word (condition_test_by known (condition_of (carried v) (take size (drop (c.next + 1) ws))))) ew
       ∙ ap (λ (x : Name). test_word (condition_test_by known (condition_of (carried here) x))) named in
-      rw long (condition-on code code' at e (rw (← tested) wrote))
-
-  pub conditions-over : {code : List ℕ} → condition_at c.count (drop c.next ws) ≡ false → ConditionsOn ws known code c code (conditions_done c)
-  conditions-over {code} e =
-      let later : coming true ws c ≡ coming false ws (conditions_done c) = conditions-end ws c.next c.count e in
-      record {
-        same = same-words (same_refl code c.at _) (ap (condition_words known) later);
-        rest = sym (ap (λ (s : Scan (List Condition)). s.rest) later);
-        within = record { count = within.count; next = within.next; at = within.at };
-        ahead = omega arith;
-        grown = omega arith;
-      }
+      rw long (condition-on w' e (rw (← tested) wrote))
 
 -- ALL OF THEM
 
-pub record ConditionsSoFar (ws : List ℕ) (known : Located) (start at : ℕ) (code₀ code : List ℕ) (c : Conditions) : Type 0 where
-  pub same : Same code₀ at (condition_words known (conditions_on_tape 0 0 (drop start ws))) code c.at (condition_words known (coming c.more ws c))
-  pub rest : (coming c.more ws c).rest ≡ (conditions_on_tape 0 0 (drop start ws)).rest
-  pub within : InConditions ws c
-  pub grown : c.at ≤ at + c.count
+pub record ConditionsSoFar (ws : List ℕ) (known : Located) (start : ℕ) (w₀ w : CodeWriter) (c : Conditions) : Type 0 where
+  pub same : StillToWrite w₀ (condition_words known (conditions_on_tape 0 0 (drop start ws))) w (condition_words known (coming ws c))
+  pub rest : (coming ws c).rest ≡ (conditions_on_tape 0 0 (drop start ws)).rest
+  pub within : InConditions ws c w.at
+  pub grown : w.at ≤ w₀.at + c.count
 
-pub conditions-go-on : {ws : List ℕ} {known : Located} {start at : ℕ} {code₀ code code' : List ℕ} {c r : Conditions}
-    → ConditionsSoFar ws known start at code₀ code c → c.more ≡ true → ConditionsOn ws known code c code' r →
-    ConditionsSoFar ws known start at code₀ code' r
-conditions-go-on s e o =
+pub conditions-go-on : {ws : List ℕ} {known : Located} {start : ℕ} {w₀ w w' : CodeWriter} {c r : Conditions}
+    → ConditionsSoFar ws known start w₀ w c → ConditionsOn ws known w c w' r →
+    ConditionsSoFar ws known start w₀ w' r
+conditions-go-on s o =
     record {
-      same = same-trans (rw e at s.same) o.same;
-      rest = o.rest ∙ (rw e at s.rest);
+      same = still-trans s.same o.same;
+      rest = o.rest ∙ s.rest;
       within = o.within;
       grown = omega (arith, s.grown, o.grown);
     }
 
-pub conditions-all : {ws : List ℕ} {known : Located} {start at : ℕ} {code₀ code : List ℕ} {c : Conditions}
-    → ConditionsSoFar ws known start at code₀ code c → c.more ≡ false → ConditionsAll ws known start code₀ at code c
-conditions-all s e =
+pub conditions-all : {ws : List ℕ} {known : Located} {start : ℕ} {w₀ w : CodeWriter} {c : Conditions} {b : Bool}
+    → ConditionsSoFar ws known start w₀ w c → b ≡ condition_at c.count (drop c.next ws) → b ≡ false
+    → ConditionsAll ws known start w₀ w c
+conditions-all {ws} {known} {c = c} s asked none =
+    let over = conditions-end ws c.next c.count (sym asked ∙ none) in
     record {
-      wrote = same_end (rw e at s.same);
-      rest = rw e at s.rest;
+      wrote = still_end (still-words s.same (ap (condition_words known) over));
+      rest = sym (ap (λ (r : Scan (List Condition)). r.rest) over) ∙ s.rest;
       next = s.within.next;
       grown = omega (arith, s.grown, s.within.count);
     }
-
--- THE STORES
-
-pub store_word : (n : ℕ) → IsSite n → store_of_site n ≡ store_number + first * n
-store_word n h = omega (arith, h.same)

@@ -1,151 +1,98 @@
--- Laws of the list of different s-variables: finding one by its number, and adding one.
-use Prim.Native.Nat.{ℕ, suc, ◌+◌, ◌-◌, ◌*◌, ◌/◌, ◌%◌, ◌≤◌, ◌<◌}
-use native.Mathlib.Numerals.{add-one}
-use native.Mathlib.Omega.{arith}
-use mathlib.Core.Path.{◌≡◌, refl, sym, ap, ◌∙◌}
-use mathlib.Core.Bool.{Bool, true, false}
-use mathlib.Core.Option.{Option, none, some}
-use mathlib.Core.List.{List, [], ◌∷◌, ◌++◌}
-use lib.Dec.{eqb}
-use lib.ListN.{length, take, get_or, set}
-use lib.Seq.{take-suc-set, get_or-set_same, get_or-set_other, length-take-le, get_or-take, set_out}
-use borrow.Author.Tests.{eq-eqb, ne_eqb}
-use native.Mathlib.Decide.{dec_le, ℕ_discrete}
-use native.Mathlib.Nat.{lt_of_not-le}
-use Rattle.meaning.specs.Choice.{Name, pick, same_bytes, Named, lookup}
-use Rattle.meaning.specs.Instructions.{Site, from_start, from_end, from_place}
-use Rattle.meaning.specs.Allowed.{max_letters}
-use Rattle.meaning.specs.Packing.{from_start_number, from_end_number, from_place_number, site_offset}
-use Rattle.code_numbers.specs.Numbers.{operand}
-use Rattle.tape_words.specs.Words.{head_name, head_names}
-use Rattle.tape_words.specs.Finding.{number_among}
-use Rattle.meaning.proofs.Laws.Words.{register-below}
-use Rattle.tape_words.specs.declared.tape.Parts.{Parts}
-use Rattle.tape_words.specs.declared.tape.Parts.TheVariants.{Zero, One, Two}
-use Rattle.code_patterns.specs.declared.pattern.Lengths.{Lengths}
-use Rattle.code_patterns.specs.Testing.{site_numbers, SmallSite, last_of, site_by, site_at, site_number, site_in, IsSite}
-use Rattle.code_patterns.specs.Testing.{AllSites, found_site, held_sites, held, total}
+-- Laws of the different s-variables: finding one by its name, and adding one; and what a condition's word says.
+use Rattle.std.proofs.Common.{◌≡◌, ℕ, zero, suc, ◌+◌, ◌<◌, ◌≤◌, true, false, List, [], ◌∷◌, ◌++◌, length, take, set}
+use Rattle.std.proofs.Common.{refl, sym, ap, arith, ◌∙◌, add-one}
+use Rattle.std.specs.Prelude.{Option, None, Some, unwrap_or, eqb}
+use Rattle.std.specs.List.{AllWithin, HoldsAt}
+use mathlib.Core.Option.{none, some}
+use lib.ListN.{get_or}
+use lib.Seq.{take-suc-set}
+use Rattle.meaning.specs.Choice.{Name, Named, lookup, same_bytes}
+use Rattle.meaning.specs.Classes.{class_number}
+use Rattle.meaning.specs.Instructions.{Site as MeantSite}
+use Rattle.meaning.specs.Packing.{truth_bit}
+use Rattle.meaning.specs.Translation.{value_from, value_number}
+use Rattle.tape_layout.specs.Tape.{class_count}
+use Rattle.tape_words.specs.Words.{class_in}
+use Rattle.code_patterns.specs.declared.symbols.Symbol.{Symbol}
+use Rattle.code_patterns.specs.Testing.{site_meant, symbol_name, held, HasName, LacksName, IsFirstNamed}
 
--- CELLS AS NUMBERS
+-- FINDING ONE
 
-low_byte : (r k : ℕ) → r < operand → (r + operand * k) % operand ≡ r
-low_byte r k h = omega arith
+module _ (ws : List ℕ) (n : Name) where
+  held-none : (symbols : List Symbol) → AllWithin (LacksName ws n) symbols 0 (length symbols) → lookup n (held ws symbols) ≡ none
+  unfolding lookup
+  held-none [] all = refl
+  held-none (s ∷ ss) all =
+      let e : same_bytes n (symbol_name ws s) ≡ false = all 0 s (omega arith) (omega arith) in
+      rw e (held-none ss (λ k d l h. all (suc k) d (omega arith) (omega arith)))
 
-high_part : (r k : ℕ) → r < operand → (r + operand * k) / operand ≡ k
-high_part r k h = omega arith
+  held-some : (symbols : List Symbol) (k : ℕ) (d : Symbol) → k < length symbols → HoldsAt (HasName ws n) symbols k
+      → AllWithin (LacksName ws n) symbols 0 k → lookup n (held ws symbols) ≡ some (site_meant (get_or symbols k d).site)
+  unfolding lookup
+  held-some [] k d l has lacks = absurd (omega arith)
+  held-some (s ∷ ss) zero d l has lacks = let e : same_bytes n (symbol_name ws s) ≡ true = has s in rw e refl
+  held-some (s ∷ ss) (suc k) d l has lacks =
+      let e : same_bytes n (symbol_name ws s) ≡ false = lacks 0 s (omega arith) (omega arith) in
+      rw e (held-some ss k d (omega arith) has (λ j x o h. lacks (suc j) x (omega arith) (omega arith)))
 
-pub site-back : (s : Site) → site_in (site_number s) ≡ s
-site-back (from_start k) = rw (low_byte from_start_number k (omega arith), high_part from_start_number k (omega arith))
-site-back (from_end k) = rw (low_byte from_end_number k (omega arith), high_part from_end_number k (omega arith))
-site-back (from_place k) = rw (low_byte from_place_number k (omega arith), high_part from_place_number k (omega arith))
+  value-none : (from : ℕ) (symbols : List Symbol) → AllWithin (LacksName ws n) symbols 0 (length symbols)
+      → value_from from n (held ws symbols) ≡ 0
+  unfolding value_from
+  value-none from [] all = refl
+  value-none from (s ∷ ss) all =
+      let e : same_bytes n (symbol_name ws s) ≡ false = all 0 s (omega arith) (omega arith) in
+      rw e (value-none (suc from) ss (λ k d l h. all (suc k) d (omega arith) (omega arith)))
 
-pub site-number : (s : Site) → site_offset s ≤ max_letters → IsSite (site_number s)
-site-number s h = record { same = ap site_number (site-back s); small = omega (arith, register-below s) }
+  value-some : (from : ℕ) (symbols : List Symbol) (k : ℕ) → k < length symbols → HoldsAt (HasName ws n) symbols k
+      → AllWithin (LacksName ws n) symbols 0 k → value_from from n (held ws symbols) ≡ from + k
+  unfolding value_from
+  value-some from [] k l has lacks = absurd (omega arith)
+  value-some from (s ∷ ss) zero l has lacks = let e : same_bytes n (symbol_name ws s) ≡ true = has s in rw e (omega arith)
+  value-some from (s ∷ ss) (suc k) l has lacks =
+      let e : same_bytes n (symbol_name ws s) ≡ false = lacks 0 s (omega arith) (omega arith) in
+      rw e (value-some (suc from) ss k (omega arith) has (λ j x o h. lacks (suc j) x (omega arith) (omega arith)) ∙ omega arith)
 
-pub all_set : (sites : List ℕ) (k v : ℕ) → AllSites sites → IsSite v → AllSites (set sites k v)
-all_set sites k v h g j = elim (dec_le (length sites) k) [ yes o ↦ rw (set_out sites k v o) (h j) | no o ↦ inside (lt_of_not-le o) (ℕ_discrete j k) ]
-  where
-    inside : k < length sites → Dec (j ≡ k) → IsSite (get_or (set sites k v) j 0)
-    inside o (yes e) = rw (e, get_or-set_same sites k v 0 o) g
-    inside o (no e) = rw (get_or-set_other sites k j v 0 e) (h j)
+  -- from where it was found
+  module _ (symbols : List Symbol) where
+    pub none-found : IsFirstNamed ws symbols n None → none ≡ lookup n (held ws symbols)
+    none-found all = sym (held-none symbols all)
 
--- what is found is a cell's number
-pub found-good : (sites : List ℕ) → AllSites sites → (n : ℕ) → IsSite (found_site n sites)
-found-good sites good n = by-test (eqb n 0)
-  where
-    by-test : (b : Bool) → IsSite (pick b 0 (get_or sites (n - 1) 0))
-    by-test true = record { same = refl; small = omega arith }
-    by-test false = good (n - 1)
+    pub site-found : (k : ℕ) (d : Symbol) → IsFirstNamed ws symbols n (Some k)
+        → some (site_meant (get_or symbols k d).site) ≡ lookup n (held ws symbols)
+    site-found k d (l, has, lacks) = sym (held-some symbols k d l has lacks)
 
-pub site-small : (l : Lengths) (template : Parts) (o : ℕ) → total l ≤ max_letters → o ≤ max_letters
-    → SmallSite (site_numbers (site_at l template o))
-site-small l template o h g = by_parts l.parts template (last_of l.parts l) (last-small l.parts)
-  where
-    last-small : (p : Parts) → last_of p l ≤ max_letters
-    last-small Zero = omega arith
-    last-small One = omega arith
-    last-small Two = omega arith
+    pub value-found : (r : Option ℕ) → IsFirstNamed ws symbols n r → unwrap_or r 0 ≡ value_number (held ws symbols) n
+    value-found None all = sym (value-none 0 symbols all)
+    value-found (Some k) (l, has, lacks) = let e = value-some 0 symbols k l has lacks in omega (arith, e)
 
-    by_parts : (p k : Parts) (n : ℕ) → n ≤ max_letters → SmallSite (site_numbers (site_by p k n o))
-    by_parts p Zero n m = (omega arith, omega arith)
-    by_parts Zero One n m = (omega arith, omega arith)
-    by_parts One One n m = (omega arith, omega arith)
-    by_parts Two One n m = (omega arith, omega arith)
-    by_parts p Two n m = (omega arith, omega arith)
+    pub value-bound : (r : Option ℕ) → IsFirstNamed ws symbols n r → unwrap_or r 0 ≤ length symbols
+    value-bound None all = omega arith
+    value-bound (Some k) (l, has, lacks) = omega arith
 
--- FINDING
+-- ADDING ONE
 
--- a number that is found is past the count
-number_past : (k : ℕ) (ms : List Name) (n : Name) → (number_among k ms n ≡ 0 → ⊥) → k < number_among k ms n
-unfolding number_among
-number_past k [] n h = absurd (h refl)
-number_past k (m ∷ ms) n h = by-test (same_bytes n m) (number_among (k + 1) ms n) (number_past (k + 1) ms n) h
-  where
-    by-test : (t : Bool) (later : ℕ) → ((later ≡ 0 → ⊥) → k + 1 < later) → (pick t (k + 1) later ≡ 0 → ⊥) → k < pick t (k + 1) later
-    by-test true later past g = omega arith
-    by-test false later past g = omega (arith, past g)
+held-append : (ws : List ℕ) (symbols : List Symbol) (s : Symbol)
+    → held ws (symbols ++ s ∷ []) ≡ held ws symbols ++ record { name = symbol_name ws s; value = site_meant s.site } ∷ []
+held-append ws [] s = refl
+held-append ws (r ∷ rs) s =
+    ap (λ (l : List (Named MeantSite)). record { name = symbol_name ws r; value = site_meant r.site } ∷ l) (held-append ws rs s)
 
-abbrev found_from : ℕ → ℕ → List ℕ → Option Site
-found_from k j ss = pick (eqb j 0) none (some (site_in (get_or ss (j - (k + 1)) 0)))
+pub held_more : (ws : List ℕ) (symbols : List Symbol) (n : ℕ) (s : Symbol) → n < length symbols
+    → held ws (take (n + 1) (set symbols n s))
+    ≡ held ws (take n symbols) ++ record { name = symbol_name ws s; value = site_meant s.site } ∷ []
+held_more ws symbols n s h = rw (add-one, take-suc-set symbols n s h) (held-append ws (take n symbols) s)
 
--- one element further on
-found-later : (k : ℕ) (ms : List Name) (n : Name) (s : ℕ) (ss : List ℕ)
-    → found_from (k + 1) (number_among (k + 1) ms n) ss ≡ found_from k (number_among (k + 1) ms n) (s ∷ ss)
-found-later k ms n s ss = elim (ℕ_discrete (number_among (k + 1) ms n) 0) [ yes e ↦ rw (eq-eqb _ _ e) | no e ↦ later e ]
-  where
-    later : (number_among (k + 1) ms n ≡ 0 → ⊥) → found_from (k + 1) (number_among (k + 1) ms n) ss ≡ found_from k (number_among (k + 1) ms n)
-        (s ∷ ss)
-    later e =
-        let j = number_among (k + 1) ms n in
-        let past : k + 1 < j = number_past (k + 1) ms n e in
-        let less : j - (k + 1) ≡ suc (j - (k + 1 + 1)) = omega arith in
-        rw (less)
+-- WHAT A CONDITION'S WORD SAYS
 
-lookup-from : (ws : List ℕ) (k : ℕ) (ps ss : List ℕ) (x : Name) → length ps ≡ length ss
-    → lookup x (held_sites ws ps ss) ≡ found_from k (number_among k (head_names ws ps) x) ss
-unfolding lookup held_sites number_among
-lookup-from ws k [] ss x h = refl
-lookup-from ws k (p ∷ ps) [] x h = absurd (omega arith)
-lookup-from ws k (p ∷ ps) (s ∷ ss) x h = by-test (lookup-from ws (k + 1) ps ss x (omega arith)) (same_bytes x (head_name ws p))
-  where
-    by-test : lookup x (held_sites ws ps ss) ≡ found_from (k + 1) (number_among (k + 1) (head_names ws ps) x) ss → (t : Bool) →
-        pick t (some (site_in s)) (lookup x (held_sites ws ps ss))
-        ≡ found_from k (pick t (k + 1) (number_among (k + 1) (head_names ws ps) x)) (s ∷ ss)
-    by-test e true =
-        let z : k + 1 - (k + 1) ≡ 0 = omega arith in
-        rw (ne_eqb (k + 1) 0 (λ e. omega arith), z)
-    by-test e false = e ∙ found-later k (head_names ws ps) x s ss
+pub class-number : (n : ℕ) → n < class_count → class_number (class_in n) ≡ n
+class-number zero h = refl
+class-number (suc zero) h = refl
+class-number (suc (suc zero)) h = refl
+class-number (suc (suc (suc zero))) h = refl
+class-number (suc (suc (suc (suc zero)))) h = refl
+class-number (suc (suc (suc (suc (suc n))))) h = absurd (omega arith)
 
-module _ (ws names sites : List ℕ) (n : ℕ) (x : Name) (hn : n ≤ length names) (hs : n ≤ length sites) where
-  abbrev found : ℕ
-  found = number_among 0 (head_names ws (take n names)) x
-
-  lookup-held : lookup x (held ws names sites n) ≡ found_from 0 found (take n sites)
-  lookup-held = lookup-from ws 0 (take n names) (take n sites) x (length-take-le n names hn ∙ sym (length-take-le n sites hs))
-
-  pub lookup-none : found ≡ 0 → lookup x (held ws names sites n) ≡ none
-  lookup-none e = lookup-held ∙ rw (eq-eqb found 0 e)
-
-  pub lookup-some : (found ≡ 0 → ⊥) → found ≤ n → lookup x (held ws names sites n) ≡ some (site_in (found_site found sites))
-  lookup-some e h =
-      let z : found - (0 + 1) ≡ found - 1 = omega arith in
-      lookup-held ∙ rw (ne_eqb found 0 e, get_or-take n sites (found - 1) 0 (inside e h))
-    where
-      inside : (found ≡ 0 → ⊥) → found ≤ n → found - 1 < n
-      inside g k = omega (arith, number_past 0 (head_names ws (take n names)) x g)
-
-held-append : (ws ps ss : List ℕ) (p s : ℕ) → length ps ≡ length ss
-    → held_sites ws (ps ++ p ∷ []) (ss ++ s ∷ []) ≡ held_sites ws ps ss ++ record { name = head_name ws p; value = site_in s } ∷ []
-unfolding held_sites
-held-append ws [] [] p s h = refl
-held-append ws [] (s ∷ ss) p t h = absurd (omega arith)
-held-append ws (q ∷ ps) [] p s h = absurd (omega arith)
-held-append ws (q ∷ ps) (r ∷ ss) p s h =
-    ap (λ (l : List (Named Site)). record { name = head_name ws q; value = site_in r } ∷ l) (held-append ws ps ss p s (omega arith))
-
--- the list with one more
-pub held_more : (ws names sites : List ℕ) (n p s : ℕ) → n < length names → n < length sites
-    → held ws (set names n p) (set sites n s) (n + 1) ≡ held ws names sites n ++ record { name = head_name ws p; value = site_in s } ∷ []
-held_more ws names sites n p s hn hs =
-    rw (add-one, take-suc-set names n p hn, take-suc-set sites n s hs)
-    (held-append ws (take n names) (take n sites) p s (length-take-le n names (omega arith) ∙ sym (length-take-le n sites (omega arith))))
+pub truth-bit : (n : ℕ) → n < 2 → truth_bit (eqb n 1) ≡ n
+truth-bit zero h = refl
+truth-bit (suc zero) h = refl
+truth-bit (suc (suc n)) h = absurd (omega arith)

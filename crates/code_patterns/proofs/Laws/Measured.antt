@@ -3,7 +3,6 @@ use Prim.Native.Nat.{ℕ, suc, ◌+◌, ◌≤◌, ◌<◌}
 use native.Mathlib.Omega.{arith}
 use native.Mathlib.Nat.{zero-add}
 use mathlib.Core.Path.{◌≡◌, refl, sym, ap, ap₂, ◌∙◌}
-use mathlib.Core.Bool.{Bool, true, false}
 use mathlib.Core.List.{List, []}
 use lib.ListN.{length, drop, get_or}
 use Rattle.meaning.specs.Allowed.{max_letters}
@@ -18,7 +17,7 @@ use Rattle.code_patterns.specs.declared.pattern.Pattern.{Pattern}
 use Rattle.tape_words.specs.Words.{head_name, piece_at}
 use Rattle.code_patterns.specs.Scans.{Scan, scanned, prepended, one_more, piece_by, pattern_on_tape, pattern_at}
 use Rattle.code_patterns.specs.Measuring.{lengths, lengths_of, add_first, add_second, add_third, longer_lengths, cut_lengths, variable_place}
-use Rattle.code_patterns.specs.Measuring.{past_letter, past_part, past_all, measured_by, variable_by, Measured, measuring, InPattern, flag, Measures}
+use Rattle.code_patterns.specs.Measuring.{past_letter, past_part, measured_by, variable_by, Measured, measuring, measured, InPattern, Measures}
 use Rattle.code_patterns.specs.Measuring.{MeasuresAll}
 use Rattle.tape_words.proofs.Laws.Names.{name-here}
 use Rattle.code_patterns.proofs.Laws.Scanning.{pattern-at, pattern-end, pattern-past, Fits, pattern-fits, NotBoth, Told, told}
@@ -94,7 +93,7 @@ module _ (ws : List ℕ) (m : Pattern) where
   after_part size = pattern_on_tape m.letters (one_more m.lengths.parts) 0 (drop (m.next + 1 + size) ws)
 
   letter-same : (l : Letter) (size : ℕ) → here ≡ prepended (letter l) (after_letter size)
-      → measuring true ws (past_letter m size) ≡ measuring true ws m
+      → measuring ws (past_letter m size) ≡ measuring ws m
   unfolding shape_of
   letter-same l size e =
       rw (
@@ -105,7 +104,7 @@ module _ (ws : List ℕ) (m : Pattern) where
       )
 
   part_same : (size : ℕ) → here ≡ prepended (part (head_name ws m.next)) (after_part size) → NotBoth m.lengths.parts
-      → measuring true ws (past_part m size) ≡ measuring true ws m
+      → measuring ws (past_part m size) ≡ measuring ws m
   unfolding shape_of
   part_same size e h =
       let s = shape_of (after_part size).value in
@@ -116,7 +115,7 @@ module _ (ws : List ℕ) (m : Pattern) where
         cut-variable m.lengths.parts ws m.variable m.next s h fits,
       )
 
-  end_same : here ≡ scanned [] (drop m.next ws) → measuring false ws (past_all m) ≡ measuring true ws m
+  end_same : here ≡ scanned [] (drop m.next ws) → measured ws m ≡ measuring ws m
   unfolding shape_of
   end_same e =
       rw (
@@ -141,7 +140,7 @@ module _ (ws : List ℕ) (m : Pattern) where
     sum-longer Two a b c n e = omega arith
 
     letter-measures : {r : Pattern} (size : ℕ) → m.letters < max_letters → m.next + 1 + size ≤ length ws
-        → measuring true ws (past_letter m size) ≡ measuring true ws m → r ≡ past_letter m size → Measures ws m r
+        → measuring ws (past_letter m size) ≡ measuring ws m → r ≡ past_letter m size → Measures ws m r
     letter-measures size room fits same done =
         rw done record {
           same = same;
@@ -183,25 +182,15 @@ module _ (ws : List ℕ) (m : Pattern) where
           ahead = omega (arith, named.inside);
         }
 
-    pub end-measures : {r : Pattern} → piece ≡ PatternEnd → r ≡ past_all m → Measures ws m r
-    end-measures e done =
-        rw done record {
-          same = end_same (pattern-end ws m.next m.letters m.lengths.parts (sym is ∙ e));
-          within = record { letters = within.letters; most = within.most; next = within.next };
-          ahead = omega arith;
-        }
-
--- what is left falls where there was more
-pub falls : {more : Bool} (left before : ℕ) → more ≡ true → left < before + 1 → left < before + flag more
-falls left before e h = rw e h
+    pub end-measures : piece ≡ PatternEnd → measured ws m ≡ measuring ws m
+    end-measures e = end_same (pattern-end ws m.next m.letters m.lengths.parts (sym is ∙ e))
 
 -- the whole
-pub measured-all : (ws : List ℕ) (start : ℕ) (r : Pattern) → r.more ≡ false → InPattern ws r
-    → measuring r.more ws r
-    ≡ measuring true ws (record { lengths = lengths Zero 0 0 0; variable = start; letters = 0; next = start; more = true }) → MeasuresAll ws start r
-measured-all ws start r h within e =
-    let f : measuring false ws r ≡
-    measuring true ws (record { lengths = lengths Zero 0 0 0; variable = start; letters = 0; next = start; more = true }) = rw h at e in
+pub measured-all : (ws : List ℕ) (start : ℕ) (r : Pattern) → InPattern ws r → measured ws r ≡ measuring ws r
+    → measuring ws r ≡ measuring ws (record { lengths = lengths Zero 0 0 0; variable = start; letters = 0; next = start })
+    → MeasuresAll ws start r
+measured-all ws start r within over e =
+    let f = over ∙ e in
     record {
       lengths = ap (λ (m : Measured). m.lengths) f ∙ whole-lengths (shape_of (pattern_at (drop start ws)).value);
       variable = ap (λ (m : Measured). m.variable) f;

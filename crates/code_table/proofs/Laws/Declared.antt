@@ -16,7 +16,8 @@ use Rattle.meaning.specs.Instructions.{Code}
 use Rattle.meaning.specs.Translation.{translate, translated_sentences, translated_function}
 use Rattle.meaning.specs.Packing.{Words, pack_sentences, pack_functions, places_from}
 use Rattle.tape_words.specs.Words.{name_in, head_name, head_names}
-use Rattle.tape_words.specs.Finding.{recoverer_among}
+use Rattle.tape_words.specs.Finding.{place_number, recoverer_among}
+use Rattle.std.specs.Prelude.{Option, None, Some, IfSome}
 use Rattle.code_sentences.specs.Trees.{is_function_word, functions_on_tape, function_on_tape, sentences_on_tape, tree_of}
 use Rattle.code_words.specs.Writing.{Wrote}
 use Rattle.code_sentences.specs.Sentencing.{function_words, FunctionAll}
@@ -24,7 +25,7 @@ use Rattle.code_table.specs.Declaring.{HeadsInside, words_from, heads_left, Head
 use Rattle.code_table.specs.Declaring.{FunctionsAll}
 use Rattle.code_table.specs.Leaves.{code_of}
 use Rattle.meaning.proofs.Laws.Remaining.{at_place}
-use Rattle.tape_words.proofs.Laws.Names.{name-part, name-skip}
+use Rattle.tape_words.proofs.Laws.Names.{name-skip}
 use Rattle.code_expressions.proofs.Laws.Naming.{number-among}
 use Rattle.meaning.proofs.Laws.Packing.{places-length}
 use Rattle.meaning.proofs.Laws.Storing.{sets-append}
@@ -110,27 +111,29 @@ function-name [] = refl
 function-name (w ∷ ws) = refl
 
 -- the function that recovers it is found among the heads by the words of its name
-function-recoverer : (t : Table) (ws heads : List ℕ) (head : ℕ) {named recoverer : ℕ}
-    → names_of t ≡ head_names ws heads → named ≡ length (head_name ws head)
-    → recoverer ≡ recoverer_among (head_names ws heads) (take named (drop (head + 1) ws)) → recoverer ≡
-    recoverer_of t (function_on_tape (drop head ws)).name
+function-recoverer : (t : Table) (ws heads : List ℕ) (head : ℕ) {name : List ℕ} {recoverer : ℕ}
+    → names_of t ≡ head_names ws heads → name ≡ head_name ws head → recoverer ≡ recoverer_among (head_names ws heads) name
+    → recoverer ≡ recoverer_of t (function_on_tape (drop head ws)).name
 function-recoverer t ws heads head names e found =
-    let name : take (length (head_name ws head)) (drop (head + 1) ws) ≡ (function_on_tape (drop head ws)).name =
-    sym (name-part ws head) ∙ sym (function-name (drop head ws)) in
-    found ∙ rw (e, name, ← names) (sym (by_names (function_on_tape (drop head ws)).name))
+    found ∙ rw (e, ← (function-name (drop head ws)), ← names) (sym (by_names (function_on_tape (drop head ws)).name))
   where
     by_names : (n : Name) → recoverer_of t n ≡ recoverer_among (names_of t) n
     by_names n = rw (number-among 0 t (recover_prefix ++ n))
 
-pub entry-written : {ws heads part part₁ part₂ : List ℕ} {k at next named recoverer from size : ℕ}
+-- a place in a list of so many is told by a number up to that
+pub place-few : (r : Option ℕ) {n : ℕ} → IfSome r (λ k. k < n) → place_number r ≤ n
+place-few None h = omega arith
+place-few (Some k) h = omega arith
+
+pub entry-written : {ws heads name part part₁ part₂ : List ℕ} {k at next recoverer from size : ℕ}
     → get_or heads k 0 < length ws
-    → named ≡ length (head_name ws (get_or heads k 0))
-    → recoverer ≡ recoverer_among (head_names ws heads) (take named (drop (get_or heads k 0 + 1) ws))
+    → name ≡ head_name ws (get_or heads k 0)
+    → recoverer ≡ recoverer_among (head_names ws heads) name
     → Wrote part 0 (at ∷ []) part₁ next
     → from ≡ min (at - (k + 1)) (length part₁)
-    → FunctionAll ws heads (get_or heads k 0 + 1 + named) recoverer (lent_from part₁ from) part₂ size
+    → FunctionAll ws heads (get_or heads k 0 + 1 + length name) recoverer (lent_from part₁ from) part₂ size
     → EntryAll ws heads k part at (back_from part₁ from part₂) (at + size)
-entry-written {ws} {heads} {part} {part₁} {part₂} {k} {at} {named = named} {recoverer} {from} {size} inside e found put f all =
+entry-written {ws} {heads} {name} {part} {part₁} {part₂} {k} {at} {recoverer = recoverer} {from} {size} inside e found put f all =
     record {
       left = λ t h.
           let z : at - (k + 1) + 0 ≡ at - (k + 1) = omega arith in
@@ -143,10 +146,10 @@ entry-written {ws} {heads} {part} {part₁} {part₂} {k} {at} {named = named} {
     }
   where
     same-words : (t : Table) → names_of t ≡ head_names ws heads
-        → pack_sentences (translated_sentences t recoverer (sentences_on_tape max_sentences (drop (get_or heads k 0 + 1 + named) ws)))
+        → pack_sentences (translated_sentences t recoverer (sentences_on_tape max_sentences (drop (get_or heads k 0 + 1 + length name) ws)))
         ≡ pack_sentences (translated_at t ws (get_or heads k 0))
     same-words t h =
-        let sentences : sentences_on_tape max_sentences (drop (get_or heads k 0 + 1 + named) ws) ≡ (function_on_tape
+        let sentences : sentences_on_tape max_sentences (drop (get_or heads k 0 + 1 + length name) ws) ≡ (function_on_tape
         (drop (get_or heads k 0) ws)).sentences =
         rw e (sym (function-sentences ws (get_or heads k 0) inside)) in
         ap₂ (λ (r : ℕ) (ss : List Sentence). pack_sentences (translated_sentences t r ss))

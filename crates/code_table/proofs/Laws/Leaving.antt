@@ -1,22 +1,18 @@
 -- Laws of what translating leaves: the code with zeros after it, or zeros.
-use Prim.Native.Nat.{ℕ, zero, suc, ◌-◌, ◌≤◌, ◌<◌, min}
+use Prim.Native.Nat.{ℕ, zero, suc, ◌-◌, ◌≤◌, ◌<◌}
 use native.Mathlib.Omega.{arith}
 use native.Mathlib.Nat.{zero-add}
-use mathlib.Core.Path.{◌≡◌, sym, ap, ◌∙◌}
+use mathlib.Core.Path.{◌≡◌, ap, ◌∙◌}
 use mathlib.Core.Bool.{true, false}
 use mathlib.Core.List.{List, ◌++◌}
 use borrow.Author.Tests.{le-leb, lt-leb}
 use lib.Dec.{leb}
-use lib.ListN.{length, take, drop, length-take, length-replicate}
+use lib.ListN.{length, drop, length-replicate}
 use lib.Seq.{sets-eq, length-sets}
+use Rattle.std.specs.Prelude.{Some, None}
 use Rattle.meaning.specs.Leaving.{zeros}
 use Rattle.code_words.specs.Writing.{cleared_from, Wrote}
 use Rattle.code_table.specs.Leaves.{LeavesCode}
-use Rattle.tape_words.proofs.Laws.Lists.{take_again}
-
--- words past the end of the tape don't count
-pub take_counted : (tape : List ℕ) (words : ℕ) {count most : ℕ} → length tape ≡ most → count ≡ min words most → take count tape ≡ take words tape
-take_counted tape words long e = rw (e, ← long, ← (length-take words tape)) (take_again words tape)
 
 pub cleared-whole : (l : List ℕ) → cleared_from 0 l ≡ zeros (length l)
 cleared-whole l = let e : length l - 0 ≡ length l = omega arith in rw e
@@ -38,19 +34,18 @@ module _ {words code₁ code₂ : List ℕ} {r : ℕ} (lent : List ℕ) (cleared
   same-room : length code₂ ≡ length lent
   same-room = ap length wrote.left ∙ length-sets code₁ 0 words ∙ room
 
-  pub leaves-code : r ≤ length code₂ → LeavesCode words (length lent) (record { fits = true; words = r }) code₂
+  pub leaves-code : r ≤ length code₂ → LeavesCode words (length lent) (Some r) code₂
   leaves-code h =
       let fits : leb (length words) (length lent) ≡ true = le-leb (length words) (length lent) (omega (arith, same-room, wrote.next)) in
       record {
-        fits = sym fits;
-        count = rw fits (omega (arith, wrote.next));
+        told = let e : r ≡ length words = omega (arith, wrote.next) in rw (fits, e);
         cells =
             rw fits (wrote.left ∙ sets-eq words code₁ 0 (omega (arith, same-room, room, wrote.next))
             ∙ rw (zero-add, empty) (ap (λ (l : List ℕ). words ++ l) (drop-zeros (length words) (length lent))));
       }
 
   pub leaves_nothing : {code₃ : List ℕ} → length code₂ < r → code₃ ≡ cleared_from 0 code₂ →
-      LeavesCode words (length lent) (record { fits = false; words = 0 }) code₃
+      LeavesCode words (length lent) None code₃
   leaves_nothing h e =
       let short : leb (length words) (length lent) ≡ false = lt-leb (length words) (length lent) (omega (arith, same-room, wrote.next)) in
-      record { fits = sym short; count = rw short; cells = rw short (e ∙ cleared-whole code₂ ∙ rw same-room) }
+      record { told = rw short; cells = rw short (e ∙ cleared-whole code₂ ∙ rw same-room) }

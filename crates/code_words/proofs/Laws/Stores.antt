@@ -1,10 +1,9 @@
 -- Words stored one after another: in two runs, and what is left of those still to be stored.
 use Prim.Native.Nat.{ℕ}
 use native.Mathlib.Omega.{arith}
-use mathlib.Core.Path.{◌≡◌, refl, sym, ap, ◌∙◌}
+use mathlib.Core.Path.{◌≡◌, refl, ◌∙◌}
 use mathlib.Core.List.{List, [], ◌++◌}
-use lib.ListN.{length, length-append}
-use lib.Seq.{length-sets}
+use lib.ListN.{length-append}
 use Rattle.meaning.proofs.Laws.Storing.{sets-append}
 use Rattle.code_words.specs.Writing.{Wrote, Same}
 
@@ -30,9 +29,6 @@ same-wrote {b = b} {j = j} {words = words} rest s w =
 pub same_end : {a b : List ℕ} {i j : ℕ} {x : List ℕ} → Same a i x b j [] → Wrote a i x b j
 same_end s = record { left = s.left; next = omega (arith, s.next) }
 
-pub same_size : {a b : List ℕ} {i j : ℕ} {x y : List ℕ} → Same a i x b j y → length b ≡ length a
-same_size {a} {b} {i} {j} {x} {y} s = sym (length-sets b j y) ∙ ap length s.left ∙ length-sets a i x
-
 -- one run of words and then another
 pub wrote-more : {a b c : List ℕ} {i j k : ℕ} {x y : List ℕ} → Wrote a i x b j → Wrote b j y c k → Wrote a i (x ++ y) c k
 wrote-more {a} {i = i} {x = x} {y = y} v w =
@@ -40,7 +36,3 @@ wrote-more {a} {i = i} {x = x} {y = y} v w =
       left = w.left ∙ rw (v.left, v.next) (sets-append a i x y);
       next = rw (w.next, v.next, length-append) (omega arith);
     }
-
--- both of them, found among what is known
-pub wrote-both : {a b c : List ℕ} {i j k : ℕ} {x y z : List ℕ} → Wrote a i x b j → Wrote b j y c k → z ≡ x ++ y → Wrote a i z c k
-wrote-both v w e = rw e (wrote-more v w)

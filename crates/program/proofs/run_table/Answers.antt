@@ -4,5 +4,5 @@ use Rattle.program.proofs.run_table.Goals as goal
 
 pub returns : goal.returns
 returns c =
-    shows (rw (c.code_room-code.ensures, c.cell_room-stack_in.ensures, c.requires.stack_out_value, c.requires.record_value)
+    shows _ _ _ (rw (c.code_room-code.ensures, c.cell_room-stack_in.ensures, c.requires.stack_out_value, c.requires.record_value)
     at c.translate_and_run.ensures)

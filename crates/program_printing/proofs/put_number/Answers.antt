@@ -5,4 +5,4 @@ use Rattle.program_printing.proofs.put_number.Goals as goal
 pub returns : goal.returns
 returns c =
     counted-put _ c.decimal-count.ensures.in_bounds.1 c.ranges.n c.decimal-count.ensures.len c.decimal-count.ensures.digits
-    c.put_all-next.ensures c.put.ensures
+    c.put_all.ensures c.put.ensures

@@ -5,9 +5,9 @@ use Rattle.program_printing.proofs.put_result.Goals as goal
 
 pub returns : goal.returns
 returns c =
-    sum_near (at-most-then c.put_number-first.ensures
-    (at-most-then c.put_number-second.ensures
-    (at-most-then c.put_number-line.ensures
-    (at-most-then (put-bytes c.put_all-result.ensures)
-    (at-most-then (put-bytes c.put_all-end.ensures) (put-bytes c.put.ensures))))))
+    sum_near (at-most-then c.put_number.ensures
+    (at-most-then c.put_number-2.ensures
+    (at-most-then (rw c.from.ensures at c.put_number-3.ensures)
+    (at-most-then (put-bytes c.put_all.ensures)
+    (at-most-then (put-bytes c.put_all-2.ensures) (put-bytes c.put.ensures))))))
     (omega arith)

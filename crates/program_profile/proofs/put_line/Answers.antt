@@ -5,7 +5,7 @@ use Rattle.program_profile.proofs.put_line.Goals as goal
 
 pub returns : goal.returns
 returns c =
-    sum_near (at-most-then c.put_number-name.ensures
-    (at-most-then (put-bytes c.put_name-after.ensures)
-    (at-most-then (put-bytes c.put-count.ensures) c.put_number.ensures)))
+    sum_near (at-most-then c.put_number.ensures
+    (at-most-then (put-bytes c.put_name.ensures)
+    (at-most-then (put-bytes c.put.ensures) c.put_number-2.ensures)))
     (omega (arith, c.requires.0.short))

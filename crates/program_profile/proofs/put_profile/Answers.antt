@@ -6,16 +6,16 @@ use Rattle.program_printing.proofs.Putting.{put-bytes, at-most-then, sum_near}
 use Rattle.program_profile.proofs.Names.{heads-read}
 use Rattle.program_profile.proofs.put_profile.Goals as goal
 
-pub put_lines-total-requires : goal.put_lines-total-requires
-put_lines-total-requires c =
-    let heads = heads-read _ c.type_inv.table c.read-reading.ensures c.find_heads-count.ensures
+pub put_lines-requires : goal.put_lines-requires
+put_lines-requires c =
+    let heads = heads-read _ c.type_inv.table c.read.ensures c.words_read-words.ensures c.find_heads-count.ensures
     (c.find_heads-count.auto.heads ∙ ap length c.room-heads.ensures) in
     (heads.spelled, omega (arith, heads.few, c.told-counts), omega (arith, heads.few))
 
 pub returns : goal.returns
 returns c =
-    let heads = heads-read _ c.type_inv.table c.read-reading.ensures c.find_heads-count.ensures
+    let heads = heads-read _ c.type_inv.table c.read.ensures c.words_read-words.ensures c.find_heads-count.ensures
     (c.find_heads-count.auto.heads ∙ ap length c.room-heads.ensures) in
-    sum_near (at-most-then (rw heads.named at c.put_lines-total.ensures)
-    (at-most-then (put-bytes c.put_all-number.ensures) c.put_number.ensures))
+    sum_near (at-most-then (rw heads.named at c.put_lines.ensures)
+    (at-most-then (put-bytes c.put_all.ensures) (rw c.from.ensures at c.put_number.ensures)))
     (omega (arith, heads.few))

@@ -5,7 +5,7 @@ use Rattle.read_conditions.proofs.conditions.Given as goal
 
 abbrev pub invariant-loop-s : goal.invariant-loop-s
 invariant-loop-s l =
-    Conditioned l.text l.initial.tape (symbol_names l.text l.table l.symbols) (part_names l.text l.table l.parts)
+    Conditioned l.text l.initial.tape (symbol_names l.text l.variables) (part_names l.text l.variables)
     l.from l.words l.tape l.s.at l.s.words l.left
 
 abbrev pub decreases-loop-s : goal.decreases-loop-s

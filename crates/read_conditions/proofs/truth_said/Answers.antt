@@ -4,5 +4,5 @@ use Rattle.read_conditions.proofs.truth_said.Goals as goal
 
 pub returns : goal.returns
 returns c =
-    truth-three c.args.text.now c.args.t _ c.in-Quoted.is c.requires c.if-past-end.false
+    truth-three c.args.text.now c.args.t _ c.in-Quoted.is c.requires c.if-t-end.false
     c.truth_between.ensures

@@ -5,8 +5,8 @@ use lib.ListN.{length, drop}
 use Rattle.meaning.specs.Tokens as Tokens
 use Rattle.read_gaps.proofs.skip.Given as goal
 
-abbrev pub invariant-loop-at : goal.invariant-loop-at
-invariant-loop-at l = Tokens.skip Tokens.between l.from (drop l.from l.text) ≡ Tokens.skip Tokens.between l.at (drop l.at l.text)
+abbrev pub invariant-loop-byte : goal.invariant-loop-byte
+invariant-loop-byte l = Tokens.skip Tokens.between l.from (drop l.from l.text) ≡ Tokens.skip Tokens.between l.at (drop l.at l.text)
 
-abbrev pub decreases-loop-at : goal.decreases-loop-at
-decreases-loop-at l = length l.text - l.at
+abbrev pub decreases-loop-byte : goal.decreases-loop-byte
+decreases-loop-byte l = length l.text - l.at

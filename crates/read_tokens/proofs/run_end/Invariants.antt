@@ -1,12 +1,9 @@
--- The loop invariants and measures of `run_end`. The run from the start is that from here.
-use Prim.Native.Nat.{◌-◌}
-use lib.ListN.{length}
-use Rattle.read_tokens.specs.View.{run_byte}
+-- The loop invariants of `run_end`. The run from the start is that from here.
+use Prim.Native.Nat.{ℕ}
+use mathlib.Core.Bool.{Bool}
+use Rattle.read_tokens.specs.View.{IsTest}
 use Rattle.read_tokens.proofs.Words.{Running}
 use Rattle.read_tokens.proofs.run_end.Given as goal
 
 abbrev pub invariant-loop-at : goal.invariant-loop-at
-invariant-loop-at l = Running l.text (run_byte l.naming) l.from l.at
-
-abbrev pub decreases-loop-at : goal.decreases-loop-at
-decreases-loop-at l = length l.text - l.at
+invariant-loop-at g l = goal.F-IsAlwaysCallable g l.fits × ((test : ℕ → Bool) → IsTest (goal.F-post g l.fits) test → Running l.text test l.from l.at)

@@ -20,14 +20,12 @@ use Rattle.answers.specs.declared.Ending.{Ending}
 use Rattle.answers.specs.declared.Ending.TheVariants.{NoInstruction, OutFull}
 use Rattle.run_actions.specs.declared.registers.Next.{Next}
 use Rattle.run_actions.specs.declared.registers.Next.TheVariants.{Onward, Stopped}
-use Rattle.run_cells.specs.declared.places.InCell.{InCell}
-use Rattle.run_actions.specs.declared.moving.Cells.{Cells}
-use Rattle.run_actions.specs.declared.moving.Cells.TheVariants.{Wrong}
-use Rattle.run_actions.specs.declared.moving.Reached.{Reached}
-use Rattle.run_actions.specs.declared.moving.Reached.TheVariants.{At, Wrong as NotThere}
+use Rattle.std.specs.Prelude.{Result, Ok, Err}
+use Rattle.run_code_places.specs.declared.Wrong.{Wrong}
+use Rattle.run_cells.specs.Places.{InCell}
 use Rattle.run_decoding.specs.Decoded.{span_meant}
 use Rattle.answers.specs.Numbers.{ending_number}
-use Rattle.run_actions.specs.Spans.{cells_of, reached_by}
+use Rattle.run_actions.specs.Spans.{wrong, cells_of, reached_by}
 use Rattle.run_actions.specs.States.{Memory, memory, frame_word, local_of, stacks_of, Ledgers, ledger_of, memory_room, moved_to, ActionInvariant}
 use Rattle.run_actions.specs.States.{Outcomes, Continuation, Writes, Preserves, ImplementsAction, HasValues}
 use Rattle.run_sites.proofs.Laws.Lists.{nth_in, nth-out}
@@ -93,17 +91,17 @@ module _ (g : Registers) (m : Memory) where
 
   module _ (p≤q : g.p.0 ≤ g.q.0) (q≤in : g.q.0 ≤ length m.input) (add back : ℕ) where
     -- the cells from a cell on that a span counts
-    abbrev Spanned : Option Register → ℕ → Cells
+    abbrev Spanned : Option Register → ℕ → Result ℕ Wrong
     Spanned o from = cells_of o add back (local_of g m) (length m.input - from)
 
-    go-none : (o : Option Register) → Wrong ≡ Spanned o g.p.0 →
+    go-none : (o : Option Register) → Err wrong ≡ Spanned o g.p.0 →
         ImplementsAction (span_action go o add back) g.at.0 g m (Stopped g NoInstruction 0) m
     go-none none e = stops _ _ NoInstruction (λ allowance code enter k. refl)
     go-none (some r) e =
         stops _ _ NoInstruction (λ allowance code enter k. rw
         (length-drop g.p.0 m.input, lt-leb _ (length m.input - g.p.0) (not-counted _ _ e)))
 
-    go-moved : (o : Option Register) (to : InCell) → At to ≡ reached_by (Spanned o g.p.0) g.p.0 →
+    go-moved : (o : Option Register) (to : InCell) → Ok to ≡ reached_by (Spanned o g.p.0) g.p.0 →
         ImplementsAction (span_action go o add back) g.at.0 g m (Onward (moved_to g to.0 to.0 g.r.0)) m
     go-moved o to e =
         let l = led _ _ to e in
@@ -123,7 +121,7 @@ module _ (g : Registers) (m : Memory) where
               (λ f. f.room.written.below);
         }
 
-    select-none : (o : Option Register) → Wrong ≡ Spanned o g.q.0 →
+    select-none : (o : Option Register) → Err wrong ≡ Spanned o g.q.0 →
         ImplementsAction (span_action select o add back) g.at.0 g m (Stopped g NoInstruction 0) m
     select-none none e = stops _ _ NoInstruction (λ allowance code enter k. refl)
     select-none (some r) e =
@@ -131,7 +129,7 @@ module _ (g : Registers) (m : Memory) where
         let short : length m.input - g.p.0 < g.q.0 - g.p.0 + n = omega (arith, not-counted n _ e) in
         stops _ _ NoInstruction (λ allowance code enter k. rw (length-drop g.p.0 m.input, lt-leb _ _ short))
 
-    select-moved : (o : Option Register) (to : InCell) → At to ≡ reached_by (Spanned o g.q.0) g.q.0 →
+    select-moved : (o : Option Register) (to : InCell) → Ok to ≡ reached_by (Spanned o g.q.0) g.q.0 →
         ImplementsAction (span_action select o add back) g.at.0 g m (Onward (moved_to g g.p.0 to.0 g.r.0)) m
     select-moved o to e =
         let l = led _ _ to e in
@@ -146,24 +144,24 @@ module _ (g : Registers) (m : Memory) where
 
   module _ (p≤q : g.p.0 ≤ g.q.0) (q≤in : g.q.0 ≤ length m.input) (w : ℕ) where
     -- where a span leads from a cell, if the cells are there
-    abbrev pub Leading : ℕ → Reached
+    abbrev pub Leading : ℕ → Result InCell Wrong
     Leading from = reached_by (cells_of (length_of (first_in w)) (second_in w) (third_in w) (local_of g m) (length m.input - from)) from
 
-    abbrev pub gone : Reached → Next
-    gone NotThere = Stopped g NoInstruction 0
-    gone (At to) = Onward (moved_to g to.0 to.0 g.r.0)
+    abbrev pub gone : Result InCell Wrong → Next
+    gone (Err x) = Stopped g NoInstruction 0
+    gone (Ok to) = Onward (moved_to g to.0 to.0 g.r.0)
 
-    pub goes : (r : Reached) → r ≡ Leading g.p.0 → ImplementsAction (span_meant go w) g.at.0 g m (gone r) m
-    goes NotThere e = go-none p≤q q≤in (second_in w) (third_in w) (length_of (first_in w)) (not-led _ _ e)
-    goes (At to) e = go-moved p≤q q≤in (second_in w) (third_in w) (length_of (first_in w)) to e
+    pub goes : (r : Result InCell Wrong) → r ≡ Leading g.p.0 → ImplementsAction (span_meant go w) g.at.0 g m (gone r) m
+    goes (Err x) e = go-none p≤q q≤in (second_in w) (third_in w) (length_of (first_in w)) (not-led _ _ e)
+    goes (Ok to) e = go-moved p≤q q≤in (second_in w) (third_in w) (length_of (first_in w)) to e
 
-    abbrev pub selected : Reached → Next
-    selected NotThere = Stopped g NoInstruction 0
-    selected (At to) = Onward (moved_to g g.p.0 to.0 g.r.0)
+    abbrev pub selected : Result InCell Wrong → Next
+    selected (Err x) = Stopped g NoInstruction 0
+    selected (Ok to) = Onward (moved_to g g.p.0 to.0 g.r.0)
 
-    pub selects : (r : Reached) → r ≡ Leading g.q.0 → ImplementsAction (span_meant select w) g.at.0 g m (selected r) m
-    selects NotThere e = select-none p≤q q≤in (second_in w) (third_in w) (length_of (first_in w)) (not-led _ _ e)
-    selects (At to) e = select-moved p≤q q≤in (second_in w) (third_in w) (length_of (first_in w)) to e
+    pub selects : (r : Result InCell Wrong) → r ≡ Leading g.q.0 → ImplementsAction (span_meant select w) g.at.0 g m (selected r) m
+    selects (Err x) e = select-none p≤q q≤in (second_in w) (third_in w) (length_of (first_in w)) (not-led _ _ e)
+    selects (Ok to) e = select-moved p≤q q≤in (second_in w) (third_in w) (length_of (first_in w)) to e
 
   -- OUT, OUTC, OUTV
 

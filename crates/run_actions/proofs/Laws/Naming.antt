@@ -5,12 +5,14 @@ use native.Mathlib.Numerals.{add-one}
 use native.Mathlib.Omega.{arith}
 use mathlib.Core.Path.{◌≡◌, refl, sym, ◌∙◌}
 use mathlib.Core.Bool.{Bool, true, false}
+use Rattle.std.specs.Prelude.{◌&&◌}
+use Rattle.std.specs.List.{list_all}
 use mathlib.Core.List.{[], ◌∷◌, ◌++◌, append_assoc}
 use lib.Dec.{leb}
 use lib.ListN.{length, get_or, take, drop, set, length-drop, length-append}
-use lib.Seq.{get_or-take, get_or-drop, drop-drop, length-take-le, set_split, paste, take-paste, drop-paste, take-length, length-paste, append_snoc}
+use lib.Seq.{get_or-take, get_or-drop, drop-drop, length-take-le, set_split, paste, take-paste, drop-paste, take-length, take_all, length-paste, append_snoc}
 use borrow.Author.Tests.{le-leb, lt-leb, leb-true, lt-ltb, le-ltb, ltb-true}
-use Rattle.meaning.specs.Choice.{Bytes, every}
+use Rattle.meaning.specs.Choice.{Bytes, both, every}
 use Rattle.meaning.specs.Outcome.{emitted_line}
 use Rattle.meaning.specs.Allowed.{is_byte}
 use Rattle.meaning.specs.Packing.{Words}
@@ -22,39 +24,22 @@ use Rattle.meaning.proofs.Laws.Remaining.{at_place}
 
 -- WORDS THAT ARE BYTES
 
-every-at : (l : Words) (i : ℕ) → every is_byte l ≡ true → i < length l → get_or l i 0 < operand
+-- std's word for the same
+pub listed : (test : ℕ → Bool) (l : Words) → list_all test l ≡ every test l
+unfolding every
+listed test [] = refl
+listed test (x ∷ l) = rw (listed test l) (each (test x) (every test l)) where
+  each : (a b : Bool) → (a && b) ≡ both a b
+  each true b = refl
+  each false b = refl
+
+pub every-at : (l : Words) (i : ℕ) → every is_byte l ≡ true → i < length l → get_or l i 0 < operand
 unfolding every
 every-at [] i e h = absurd (not-suc-le-zero h)
 every-at (x ∷ l) zero e h = ltb-true x operand (both-parts (is_byte x) (every is_byte l) e).0
 every-at (x ∷ l) (suc i) e h = every-at l i (both-parts (is_byte x) (every is_byte l) e).1 (le_of_suc-le-suc h)
 
 module _ (words : Words) (at : ℕ) where
-  -- so many words from one on are bytes
-  abbrev pub naming : ℕ → ℕ → Bool
-  naming i n = every is_byte (take n (drop (at + i) words))
-
-  pub naming-none : (i n : ℕ) → n ≤ 0 → naming i n ≡ true
-  unfolding every
-  naming-none i zero h = refl
-  naming-none i (suc n) h = absurd (not-suc-le-zero h)
-
-  pub naming-wide : (i n : ℕ) → 0 < n → at + i < length words → operand ≤ get_or words (at + i) 0 → naming i n ≡ false
-  unfolding every
-  naming-wide i zero h h' w = absurd (not-suc-le-zero h)
-  naming-wide i (suc n) h h' w = rw (at_place words (at + i) h', le-ltb (get_or words (at + i) 0) operand w)
-
-  naming-more : (i n : ℕ) → at + i < length words → get_or words (at + i) 0 < operand → naming i (suc n) ≡ naming (i + 1) n
-  unfolding every
-  naming-more i n h' w =
-      let next : at + i + 1 ≡ at + (i + 1) = omega arith in
-      rw (at_place words (at + i) h', lt-ltb (get_or words (at + i) 0) operand w, next)
-
-  pub naming-next : (i n : ℕ) → i < n → at + i < length words → get_or words (at + i) 0 < operand → naming i (n - i) ≡ naming (i + 1) (n - (i + 1))
-  naming-next i n h h' w = let e : n - i ≡ suc (n - (i + 1)) = omega arith in rw e (naming-more i (n - (i + 1)) h' w)
-
-  pub naming-all : (n : ℕ) → n ≤ length words - at → naming 0 (n - 0) ≡ is_name n (drop at words)
-  naming-all n h = rw (length-drop at words, le-leb n (length words - at) h, sub-zero n, add-zero at)
-
   pub no_name : (n : ℕ) → length words - at < n → is_name n (drop at words) ≡ false
   no_name n h = rw (length-drop at words, lt-leb n (length words - at) h)
 
@@ -71,11 +56,13 @@ module _ (words : Words) (at : ℕ) where
   pub spelled-long : (n : ℕ) → Spelled n → length (take n (drop at words)) ≡ n
   spelled-long n s = length-take-le n (drop at words) (rw length-drop s.there)
 
-  pub spelled-byte : (n i : ℕ) → Spelled n → i < n → get_or words (at + i) 0 % operand ≡ get_or (take n (drop at words)) i 0
-  spelled-byte n i s h =
-      let e : get_or (take n (drop at words)) i 0 ≡ get_or words (at + i) 0 = get_or-take n (drop at words) i 0 h ∙ get_or-drop at words i 0 in
-      let low : get_or words (at + i) 0 < operand = rw e at (every-at (take n (drop at words)) i s.bytes (rw (spelled-long n s) h)) in
-      mod-eq_of_lt low ∙ sym e
+-- the words from a place on are all of them
+pub all_from : (at : ℕ) (words : Words) → take (length words - at) (drop at words) ≡ drop at words
+all_from at words = take_all (length words - at) (drop at words) (rw length-drop (omega arith))
+
+pub named : (words : Words) (at n : ℕ) (b : Bool) → n ≤ length words - at → b ≡ list_all is_byte (take n (drop at words)) →
+    b ≡ is_name n (drop at words)
+named words at n b h e = rw (length-drop at words, le-leb n (length words - at) h) (e ∙ listed is_byte (take n (drop at words)))
 
 -- ONE PART OF A LINE AFTER ANOTHER
 

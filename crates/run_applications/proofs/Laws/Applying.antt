@@ -21,7 +21,8 @@ use Rattle.answers.specs.declared.Ending.{Ending}
 use Rattle.answers.specs.declared.Ending.TheVariants.{NoInstruction}
 use Rattle.run_actions.specs.declared.registers.Next.TheVariants.{Onward, Stopped}
 use Rattle.run_code_places.specs.declared.CodePlace.{CodePlace}
-use Rattle.run_applications.specs.declared.Stored.TheVariants.{Before, Wrong}
+use Rattle.std.specs.Prelude.{Ok, Err}
+use Rattle.run_code_places.specs.declared.Wrong.{Wrong}
 use Rattle.answers.specs.Numbers.{ending_number}
 use Rattle.run_actions.specs.States.{Memory, memory, frame_word, local_at, Held, counts_in, ledger_of, memory_room, Outcomes}
 use Rattle.run_actions.specs.States.{HasFrame, HasValues, words_in}
@@ -182,7 +183,7 @@ module _ (words : Words) (allowance place stores stored : ℕ) (g : Registers) (
   abbrev Kept : Option Bytes
   Kept = stored_values (unpack_stores stored (drop stores words)) (take (g.q.0 - g.p.0) (drop g.p.0 input)) place
 
-  pub starts-wrong : Stores (16 * g.frame) stored (stores + stored) Kept values values' Wrong →
+  pub starts-wrong : {w : Wrong} → Stores (16 * g.frame) stored (stores + stored) Kept values values' (Err w) →
       SimulatesSentence words allowance place stores stored g Before-start (Stopped g NoInstruction 0) (memory input output «record» frames values')
   starts-wrong s r =
       stopping words allowance g Before-start (memory input output «record» frames values') r _ _ NoInstruction 0 g (omega arith)
@@ -194,7 +195,7 @@ module _ (words : Words) (allowance place stores stored : ℕ) (g : Registers) (
       record { p = g.p; q = g.p; r = g.r; frame = g.frame; at = actions; steps = g.steps; emitted = g.emitted; callee = 0 }
 
   pub starts-right : (actions : CodePlace) → length values' ≡ length values →
-      Stores (16 * g.frame) stored (stores + stored) Kept values values' (Before actions) →
+      Stores (16 * g.frame) stored (stores + stored) Kept values values' (Ok actions) →
       SimulatesSentence words allowance place stores stored g Before-start (Onward (started_at actions))
       (memory input output «record» (begun g.frame (g.q.0 - g.p.0) place stored frames) values')
   starts-right actions sized s r =

@@ -20,6 +20,9 @@ use Rattle.meaning.specs.Runs.{Room, lent}
 use Rattle.meaning.specs.Packing.{Words, unpack_sentences, unpack_stores, unpack_actions}
 use Rattle.meaning.specs.Leaving.{max_frames}
 use Rattle.run_decoding.proofs.Laws.Reading.{actions-none}
+use Rattle.run_decoding.specs.declared.CallKind.{CallKind}
+use Rattle.run_decoding.specs.declared.CallKind.TheVariants.{Framed, Tail}
+use Rattle.run_decoding.specs.Decoded.{call_by}
 use Rattle.run_actions.specs.declared.registers.Registers.{Registers}
 use Rattle.answers.specs.declared.Ending.TheVariants.{AllowanceSpent, FramesFull, NoInstruction, NoSentenceFits}
 use Rattle.run_actions.specs.declared.registers.Next.{Next}
@@ -318,18 +321,18 @@ module _ (frames : List ℕ) (k at end : ℕ) (there : HasFrame k frames) where
           waiting-same roomy allowance words Calling above values values (suc k) (sym same) refl o
 
 module _ (words : Words) (allowance number : ℕ) (g : Registers) (m : Memory) where
-  pub undeclared : (tail : Bool) → is_declared (functions_in words) number ≡ false →
-      SimulatesAction words allowance (pick tail (tail_call number) (call number)) g.at.0 g m (Stopped g NoInstruction 0) m
-  undeclared tail e u = stopping words allowance g m m u.ready _ _ NoInstruction 0 g (omega arith) (stops tail) refl refl refl refl refl
+  pub undeclared : (kind : CallKind) → is_declared (functions_in words) number ≡ false →
+      SimulatesAction words allowance (call_by kind number) g.at.0 g m (Stopped g NoInstruction 0) m
+  undeclared kind e u = stopping words allowance g m m u.ready _ _ NoInstruction 0 g (omega arith) (stops kind) refl refl refl refl refl
     where
-      stops : (tail : Bool) →
+      stops : (kind : CallKind) →
           perform (lent (memory_room m)) (functions_in words) (entering (memory_room m) allowance words)
           (continuation_at (memory_room m) allowance words g.frame g.at.0)
           (suc g.frame)
-          (pick tail (tail_call number) (call number)) (local_of g m) (stacks_of g m) (ledger_of allowance g m) ≡
+          (call_by kind number) (local_of g m) (stacks_of g m) (ledger_of allowance g m) ≡
           stop no_instruction 0 (ledger_of allowance g m)
-      stops true = rw e
-      stops false = rw e
+      stops Framed = rw e
+      stops Tail = rw e
 
   module _ (declared : is_declared (functions_in words) number ≡ true) where
     pub call-spent : allowance ≤ g.steps → SimulatesAction words allowance (call number) g.at.0 g m (Stopped g AllowanceSpent 0) m

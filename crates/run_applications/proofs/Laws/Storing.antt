@@ -12,7 +12,8 @@ use Rattle.meaning.specs.Choice.{Bytes}
 use Rattle.meaning.specs.Instructions.{Site}
 use Rattle.meaning.specs.Matching.{kept, stored_cell, stored_values}
 use Rattle.meaning.specs.Packing.{Words, store_at, store_of, unpack_stores}
-use Rattle.run_applications.specs.declared.Stored.TheVariants.{Before, Wrong}
+use Rattle.std.specs.Prelude.{Ok, Err}
+use Rattle.run_actions.specs.Spans.{wrong}
 use Rattle.run_sites.specs.Sites.{site_cell}
 use Rattle.run_applications.specs.Storing.{Stores}
 use Rattle.meaning.proofs.Laws.Remaining.{at_place}
@@ -79,14 +80,14 @@ module _ (code : Words) (field : Bytes) (place base count from : ℕ) (before : 
       }
 
   module _ (values : Bytes) (at i : ℕ) (s : Storing values at i) where
-    no-values : after (take i (drop base values)) none ≡ asked → Stores base count (from + count) asked before values Wrong
+    no-values : after (take i (drop base values)) none ≡ asked → Stores base count (from + count) asked before values (Err wrong)
     no-values e = record { same = e; ends = tt; below = s.below; above = s.above }
 
-    pub storing-cut : i < count → length code ≤ at → Stores base count (from + count) asked before values Wrong
+    pub storing-cut : i < count → length code ≤ at → Stores base count (from + count) asked before values (Err wrong)
     storing-cut more out = no-values (rw (left_cut code at field place (count - i) (omega arith) out) at s.rest)
 
     pub storing-wrong : i < count → at < length code → stored_cell (store_of (get_or code at 0)) field place ≡ none →
-        Stores base count (from + count) asked before values Wrong
+        Stores base count (from + count) asked before values (Err wrong)
     storing-wrong more there e =
         no-values (rw (left-next code at field place (count - i) (count - (i + 1)) (omega arith) there, e) at s.rest)
 
@@ -105,7 +106,7 @@ module _ (code : Words) (field : Bytes) (place base count from : ℕ) (before : 
           above = rw (drop-set-lt (base + count) values (base + i) b (omega arith)) s.above;
         }
 
-    pub storing-done : count ≤ i → Stores base count (from + count) asked before values (Before (record { 0 = at }))
+    pub storing-done : count ≤ i → Stores base count (from + count) asked before values (Ok (record { 0 = at }))
     storing-done over =
         let all : i ≡ count = omega arith in
         record {

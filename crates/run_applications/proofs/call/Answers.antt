@@ -7,11 +7,11 @@ pub returns-then-not-declared : goal.returns-then-not-declared
 returns-then-not-declared c = record {
   simulates =
       let a = c.args in
-      λ input output «record» values. undeclared _ _ _ _ _ a.what.tail (sym c.declared.ensures.result ∙ c.if-not-declared.true);
+      λ input output «record» values. rw c.stopped.ensures (undeclared _ _ _ _ _ a.what.kind (sym c.declared.ensures.result ∙ c.if-not-declared.true));
 }
 
-pub returns-then-what : goal.returns-then-what
-returns-then-what c = record {
+pub returns-in-Tail : goal.returns-in-Tail
+returns-in-Tail c = record {
   simulates =
-      λ input output «record» values. rw c.if-what.true (tail-enters _ _ _ _ _);
+      λ input output «record» values. rw c.in-Tail.is (tail-enters _ _ _ _ _);
 }

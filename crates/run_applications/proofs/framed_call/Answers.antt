@@ -12,14 +12,14 @@ use Rattle.run_applications.proofs.framed_call.Goals as goal
 pub returns-then-allowed-g : goal.returns-then-allowed-g
 returns-then-allowed-g c = record {
   simulates =
-      λ input output «record» values. call-spent _ _ c.args.number _ _ c.requires.number_value c.if-allowed-g.true;
+      λ input output «record» values. rw c.stopped.ensures (call-spent _ _ c.args.number _ _ c.requires.number_value c.if-allowed-g.true);
 }
 
 pub returns-then-frame-ge-FRAMES : goal.returns-then-frame-ge-FRAMES
 returns-then-frame-ge-FRAMES c = record {
   simulates =
-      λ input output «record» values. call-full _ _ c.args.number _ _ c.requires.number_value c.if-allowed-g.false
-      (omega (arith, c.if-frame-ge-FRAMES.true));
+      λ input output «record» values. rw c.stopped-then-frame-ge-FRAMES.ensures
+      (call-full _ _ c.args.number _ _ c.requires.number_value c.if-allowed-g.false (omega (arith, c.if-frame-ge-FRAMES.true)));
 }
 
 pub returns : goal.returns

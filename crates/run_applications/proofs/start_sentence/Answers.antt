@@ -8,8 +8,7 @@ use Rattle.meaning.specs.Choice.{Bytes}
 use Rattle.meaning.specs.Matching.{stored_values}
 use Rattle.meaning.specs.Packing.{unpack_stores}
 use Rattle.run_actions.proofs.Laws.Acting.{part-long}
-use Rattle.run_applications.specs.declared.Stored.{Stored}
-use Rattle.run_applications.specs.Storing.{Stores}
+use Rattle.run_applications.specs.Storing.{Stored, Stores}
 use Rattle.run_applications.proofs.Laws.Applying.{starts-wrong, starts-right}
 use Rattle.run_applications.proofs.start_sentence.Goals as goal
 
@@ -28,8 +27,9 @@ returns-in_default c = record {
       let a = c.args in
       -- the values of the stores are those of the field
       let kept = λ (field : Bytes). stored_values (unpack_stores a.stored (drop a.stores.0 a.code.now)) field a.place in
-      λ allowance output «record». starts-wrong _ _ _ _ _ _ _ _ _ _ _ _ c.requires.stored_le_max_stored
-      (stored-as (ap kept c.part-field.ensures) (rw c.in_default.is at c.store_values.ensures.stores));
+      λ allowance output «record». rw c.stopped.ensures
+      (starts-wrong _ _ _ _ _ _ _ _ _ _ _ _ c.requires.stored_le_max_stored
+      (stored-as (ap kept c.part-field.ensures) (rw c.in_default.is at c.store_values.ensures.stores)));
 }
 
 pub returns : goal.returns
@@ -41,6 +41,6 @@ returns c = record {
       let selected : length c.part-field.result.now ≡ a.g.q.0 - a.g.p.0 =
       ap length c.part-field.ensures ∙ part-long a.input.now a.g.p.0 a.g.q.0 c.requires.selection_within.inside in
       λ allowance output «record». rw (c.begin_frame.ensures.leaves, selected)
-      (starts-right _ _ _ _ _ _ _ _ _ _ _ _ c.requires.stored_le_max_stored c.in-Before.actions c.store_values.auto.values
-      (stored-as (ap kept c.part-field.ensures) (rw c.in-Before.is at c.store_values.ensures.stores)));
+      (starts-right _ _ _ _ _ _ _ _ _ _ _ _ c.requires.stored_le_max_stored c.in-Ok.actions c.store_values.auto.values
+      (stored-as (ap kept c.part-field.ensures) (rw c.in-Ok.is at c.store_values.ensures.stores)));
 }

@@ -15,6 +15,12 @@ pasted-one now to from at i e h h' =
     let here : at + i < length to = omega arith in
     rw (e, add-one i) (paste-suc to at from i 0 here h')
 
+-- one byte more of so many that are copied
+pub copied-next : {j : ℕ} (n : ℕ) (to from : Bytes) (at i : ℕ) → j ≡ i + n →
+    set (copied n to at from i) (at + j) (get_or from j 0) ≡ copied (suc n) to at from i
+copied-next {j} zero to from at i e = let same : j ≡ i = omega arith in rw same
+copied-next (suc n) to from at i e = copied-next n (set to (at + i) (get_or from i 0)) from at (i + 1) (omega arith)
+
 module _ (to from : Bytes) (at : ℕ) (room : at + length from ≤ length to) where
   -- so many bytes more, which makes j
   pasted-on : (n : ℕ) (now : Bytes) (i j : ℕ) → now ≡ paste to at from i → i + n ≡ j → j ≤ length from →

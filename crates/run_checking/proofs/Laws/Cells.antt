@@ -1,5 +1,5 @@
 -- The tests on cells, as matching asks for them.
-use Prim.Native.Nat.{ℕ, zero, suc, ◌+◌, ◌*◌, ◌≤◌, ◌<◌, ◌%◌}
+use Prim.Native.Nat.{ℕ, ◌+◌, ◌*◌, ◌%◌}
 use native.Mathlib.Omega.{arith}
 use mathlib.Core.Path.{◌≡◌, refl}
 use mathlib.Core.Bool.{Bool}
@@ -8,11 +8,10 @@ use lib.Arith.{mod-mul}
 use lib.Dec.{eqb}
 use borrow.Author.Tests.{ne_eqb}
 use Rattle.meaning.specs.Choice.{Bytes, pick}
-use Rattle.meaning.specs.Classes.{Class, digit, upper, lower, alphabetic, blank, in_class, same_truth}
+use Rattle.meaning.specs.Classes.{Class, in_class, same_truth}
 use Rattle.meaning.specs.Instructions.{Site}
 use Rattle.meaning.specs.Matching.{checked, asked, wrong, check}
-use Rattle.meaning.specs.Packing.{number_in, first_in, second_in, third_in, class_of, site_of, look_of, compare_of, predicate_for, test_of}
-use Rattle.byte_classes.specs.Tests.{class_test}
+use Rattle.meaning.specs.Packing.{number_in, first_in, second_in, third_in, site_of, look_of, compare_of, predicate_for, test_of}
 use Rattle.run_sites.specs.Sites.{site_cell}
 use Rattle.run_checking.specs.Checks.{last_test}
 
@@ -36,40 +35,6 @@ pub predicate-asks : (o : Option Site) (class : Class) (expected : Bool) (field 
     check (predicate_for o (some class) expected) field place ≡ asked (λ b. checked (same_truth expected (in_class class b))) a
 predicate-asks none class expected field place a e = rw e
 predicate-asks (some s) class expected field place a e = rw e
-
-pub predicate-unknown : (o : Option Site) (expected : Bool) (field : Bytes) (place : ℕ) → check (predicate_for o none expected) field place ≡ wrong
-predicate-unknown none expected field place = refl
-predicate-unknown (some s) expected field place = refl
-
--- the classes have the numbers 0 to 4
-pub class-unknown : (n : ℕ) → 4 < n → class_of n ≡ none
-class-unknown n h =
-    simp (ne_eqb n 0 (omega arith), ne_eqb n 1 (omega arith), ne_eqb n 2 (omega arith), ne_eqb n 3 (omega arith), ne_eqb n 4 (omega arith))
-
-pub record KnownClass (n : ℕ) : Type 0 where
-  pub class : Class
-  pub numbered : class_of n ≡ some class
-  pub asks : (b : ℕ) → class_test n b ≡ in_class class b
-
-pub class-known : (n : ℕ) → n ≤ 4 → KnownClass n
-class-known zero h = record { class = digit; numbered = refl; asks = λ b. refl }
-class-known (suc zero) h = record { class = upper; numbered = refl; asks = λ b. refl }
-class-known (suc (suc zero)) h = record { class = lower; numbered = refl; asks = λ b. refl }
-class-known (suc (suc (suc zero))) h = record { class = alphabetic; numbered = refl; asks = λ b. refl }
-class-known (suc (suc (suc (suc zero)))) h = record { class = blank; numbered = refl; asks = λ b. refl }
-class-known (suc (suc (suc (suc (suc n))))) h = absurd (omega arith)
-
-pub predicate-none : (o : Option Site) (n : ℕ) (expected : Bool) (field : Bytes) (place : ℕ) → n ≤ 4 → none ≡ site_cell o field place →
-    check (predicate_for o (class_of n) expected) field place ≡ wrong
-predicate-none o n expected field place h e =
-    let k = class-known n h in
-    rw k.numbered (predicate-asks o k.class expected field place none e)
-
-pub predicate-told : (o : Option Site) (n : ℕ) (expected : Bool) (field : Bytes) (place b : ℕ) → n ≤ 4 → some b ≡ site_cell o field place →
-    check (predicate_for o (class_of n) expected) field place ≡ checked (same_truth expected (class_test n b))
-predicate-told o n expected field place b h e =
-    let k = class-known n h in
-    rw (k.numbered, k.asks b) (predicate-asks o k.class expected field place (some b) e)
 
 -- a number that is none of three
 pub none_of : {A : Type 0} (n a b c : ℕ) (x y z other : A) → (n ≡ a → ⊥) → (n ≡ b → ⊥) → (n ≡ c → ⊥) →

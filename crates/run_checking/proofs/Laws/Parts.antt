@@ -3,25 +3,17 @@ use Prim.Native.Nat.{ℕ, ◌-◌, ◌≤◌, ◌<◌}
 use native.Mathlib.Omega.{arith}
 use mathlib.Core.Path.{◌≡◌, refl}
 use mathlib.Core.Bool.{Bool, true, false}
-use mathlib.Core.List.{[], ◌∷◌}
 use mathlib.Core.Option.{Option, none, some}
 use lib.Dec.{leb}
 use lib.ListN.{length, take, drop}
 use borrow.Author.Tests.{le-leb, lt-leb, leb-true, leb-false}
-use Rattle.meaning.specs.Choice.{Bytes, pick, both, guard, every}
+use Rattle.meaning.specs.Choice.{Bytes, both, guard, every}
 use Rattle.meaning.specs.Classes.{Class, in_class, same_truth}
-use Rattle.meaning.specs.Instructions.{Site, unknown_test}
-use Rattle.meaning.specs.Matching.{cells_before, cut, Checked, checked, asked, wrong, check}
+use Rattle.meaning.specs.Instructions.{Site}
+use Rattle.meaning.specs.Matching.{cells_before, cut, Checked, checked, asked, check}
 use Rattle.meaning.specs.Packing.{class_of, predicate_part_for}
-use Rattle.byte_classes.specs.Tests.{class_test}
 use Rattle.run_sites.specs.Sites.{within_field, site_before}
 use Rattle.run_sites.proofs.Laws.Sites.{site-most}
-use Rattle.run_checking.proofs.Laws.Cells.{class-unknown, class-known}
-
-every-same : (f g : ℕ → Bool) → ((b : ℕ) → f b ≡ g b) → (l : Bytes) → every f l ≡ every g l
-unfolding every
-every-same f g e [] = refl
-every-same f g e (b ∷ l) = rw (e b, every-same f g e l)
 
 -- THE CELLS BETWEEN TWO SITES
 
@@ -69,43 +61,17 @@ module _ (o o' : Option Site) (expected : Bool) (field : Bytes) (place : ℕ) wh
       by-sites (some s) none = rw (cut-none field (site_before (some s) (length field) place))
       by-sites (some s) (some r) = rw (cut_inside field (cells_before s (length field) place) (cells_before r (length field) place))
 
-  part-unknown : said none ≡ wrong
-  part-unknown = by-sites o o'
-    where
-      by-sites : (s r : Option Site) → check (predicate_part_for s r none expected) field place ≡ wrong
-      by-sites none r = refl
-      by-sites (some s) none = refl
-      by-sites (some s) (some r) = refl
-
-  -- whatever the word's number
-  pub class-wrong : (b : Bool) (n : ℕ) → 4 < n → check (pick b (predicate_part_for o o' (class_of n) expected) unknown_test) field place ≡ wrong
-  class-wrong true n h = rw (class-unknown n h) part-unknown
-  class-wrong false n h = refl
-
-  module _ (n : ℕ) (h : n ≤ 4) where
-    part-wrong : part ≡ none → said (class_of n) ≡ wrong
-    part-wrong e = let k = class-known n h in rw (k.numbered, part-asks k.class, e)
-
-    pub no_start : none ≡ site_before o (length field) place → said (class_of n) ≡ wrong
-    no_start e = part-wrong (rw (← e))
-
-    pub no_end : none ≡ site_before o' (length field) place → said (class_of n) ≡ wrong
-    no_end e = part-wrong (rw (← e) (cut-none field (site_before o (length field) place)))
-
+  -- both sites are inside the field, and the number is a class's
+  module _ (n : ℕ) (class : Class) (numbered : some class ≡ class_of n) where
     module _ (from to : ℕ) (e : some from ≡ site_before o (length field) place) (e' : some to ≡ site_before o' (length field) place) where
-      pub end-first : to < from → said (class_of n) ≡ wrong
-      end-first order = part-wrong (rw (← e, ← e', lt-leb from to order))
-
-      pub part-told : from ≤ to → said (class_of n) ≡ checked (same_truth expected (every (class_test n) (take (to - from) (drop from field))))
+      pub part-told : from ≤ to → said (class_of n) ≡ checked (same_truth expected (every (in_class class) (take (to - from) (drop from field))))
       part-told order =
-          let k = class-known n h in
           let last = site-most o' (length field) place to e' in
           rw (
-            k.numbered,
-            part-asks k.class,
+            ← numbered,
+            part-asks class,
             ← e,
             ← e',
             le-leb from to order,
             le-leb to (length field) last,
-            every-same (class_test n) (in_class k.class) k.asks (take (to - from) (drop from field)),
           )

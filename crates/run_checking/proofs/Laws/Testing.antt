@@ -5,10 +5,14 @@ use native.Mathlib.Numerals.{sub-one}
 use native.Mathlib.Omega.{arith}
 use mathlib.Core.Path.{◌≡◌, refl}
 use lib.ListN.{length, get_or, drop}
+use mathlib.Core.Bool.{Bool}
+use Rattle.std.specs.Prelude.{Result, Ok, Err, IsErr}
 use Rattle.meaning.specs.Choice.{Bytes}
 use Rattle.meaning.specs.Matching.{Checked, passed, failed, wrong, where_passed, check, check_all}
 use Rattle.meaning.specs.Packing.{Words, test_of, unpack_tests}
 use Rattle.meaning.proofs.Laws.Remaining.{at_place, past_end}
+use Rattle.run_code_places.specs.declared.Wrong.{Wrong}
+use Rattle.run_checking.specs.Checks.{checked_meant}
 
 module _ (field : Bytes) (place : ℕ) where
   -- all of so many tests from a place of the code on
@@ -42,3 +46,8 @@ pub one-test : (field : Bytes) (words : Words) (at : ℕ) → at < length words 
 one-test field words at h place =
     rw (next-test field place words at 1 (omega arith) h, no-tests field place words (at + 1) 0 (omega arith))
     (passed-last (check (test_of (get_or words at 0)) field place))
+
+-- a test that asks for what isn't there is wrong
+pub refused : (r : Result Bool Wrong) → IsErr r → checked_meant r ≡ wrong
+refused (Ok passes) e = let z : ◌≡◌ {A = ℕ} 0 1 = cc in absurd (omega arith)
+refused (Err w) e = refl

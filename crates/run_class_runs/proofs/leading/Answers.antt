@@ -1,20 +1,25 @@
--- The facts about `leading` that the check is told: a byte in the class goes on, another one or the end stops.
+-- The facts about `leading` that the check is told: a byte that passes goes on, another one or the end stops.
 use native.Mathlib.Omega.{arith}
 use mathlib.Core.Path.{sym, ◌∙◌}
-use Rattle.byte_classes.specs.Tests.{class_test}
+use mathlib.Core.Path.{◌≡◌}
+use lib.ListN.{length}
 use Rattle.run_class_runs.proofs.Laws.Runs.{no_bytes, leads-here, leads-all, leads-on}
 use Rattle.run_class_runs.proofs.leading.Goals as goal
 
 pub loop-at-init : goal.loop-at-init
-loop-at-init c = let a = c.args in (no_bytes (class_test a.class) a.part.now, omega arith)
+loop-at-init g c = (c.requires, λ test is. no_bytes test c.args.part.now)
 
 pub loop-at-preserved : goal.loop-at-preserved
-loop-at-preserved c =
-    (leads-on _ _ _ c.loop-at-test.true c.loop-at.invariant.0 (sym c.passes.ensures ∙ c.if-passes.true), omega arith)
+loop-at-preserved g c = (
+  c.loop-at.invariant.0,
+  λ test is. leads-on test _ _ c.loop-at-test.true (c.loop-at.invariant.1 test is) (sym (is _ _ c.fits.ensures) ∙ c.if-not-fits.false),
+)
 
-pub returns-else-passes : goal.returns-else-passes
-returns-else-passes c =
-    leads-here _ _ _ c.loop-at-test.true c.loop-at.invariant.0 (sym c.passes.ensures ∙ c.if-passes.false)
+pub returns-then-not-fits : goal.returns-then-not-fits
+returns-then-not-fits g c = λ test is.
+    leads-here test _ _ c.loop-at-test.true (c.loop-at.invariant.1 test is) (sym (is _ _ c.fits.ensures) ∙ c.if-not-fits.true)
 
 pub returns : goal.returns
-returns c = leads-all _ _ _ (omega arith) c.loop-at.invariant.0
+returns g c = λ test is.
+    let all : c.loop-at.at ≡ length c.args.part.now = omega arith in
+    rw all at (leads-all test _ _ all (c.loop-at.invariant.1 test is))

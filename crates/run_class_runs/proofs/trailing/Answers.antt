@@ -1,23 +1,28 @@
--- The facts about `trailing` that the check is told: a byte in the class goes on, another one or the beginning stops.
+-- The facts about `trailing` that the check is told: a byte that passes goes on, another one or the beginning stops.
 use native.Mathlib.Omega.{arith}
-use mathlib.Core.Path.{sym, ◌∙◌}
+use Prim.Native.Nat.{◌+◌, ◌-◌}
+use mathlib.Core.Path.{◌≡◌, sym, ◌∙◌}
 use lib.ListN.{length}
-use Rattle.byte_classes.specs.Tests.{class_test}
 use Rattle.run_class_runs.proofs.Laws.Runs.{every-past, trails-here, trails-all, trails-on}
 use Rattle.run_class_runs.proofs.trailing.Goals as goal
 
 pub loop-at-init : goal.loop-at-init
-loop-at-init c = let a = c.args in (every-past (class_test a.class) a.part.now (length a.part.now) (omega arith), omega arith)
+loop-at-init g c = let part = c.args.part.now in (c.requires, λ test is. every-past test part (length part) (omega arith))
 
 pub loop-at-preserved : goal.loop-at-preserved
-loop-at-preserved c =
-    let inv = c.loop-at.invariant in
-    (trails-on _ _ _ c.loop-at-test.true inv.1 inv.0 (sym c.passes.ensures ∙ c.if-passes.true), omega arith)
+loop-at-preserved g c = (
+  c.loop-at.invariant.0,
+  λ test is. trails-on test _ _ c.loop-at-test.true c.loop-at.auto.at (c.loop-at.invariant.1 test is)
+      (sym (is _ _ c.fits.ensures) ∙ c.if-not-fits.false),
+)
 
-pub returns-else-passes : goal.returns-else-passes
-returns-else-passes c =
-    let inv = c.loop-at.invariant in
-    trails-here _ _ _ c.loop-at-test.true inv.1 inv.0 (sym c.passes.ensures ∙ c.if-passes.false)
+pub returns-then-not-fits : goal.returns-then-not-fits
+returns-then-not-fits g c = λ test is.
+    let after : c.loop-at.at - 1 + 1 ≡ c.loop-at.at = omega arith in
+    rw after (trails-here test _ _ c.loop-at-test.true c.loop-at.auto.at (c.loop-at.invariant.1 test is)
+    (sym (is _ _ c.fits.ensures) ∙ c.if-not-fits.true))
 
 pub returns : goal.returns
-returns c = trails-all _ _ _ (omega arith) c.loop-at.invariant.0
+returns g c = λ test is.
+    let all : c.loop-at.at ≡ 0 = omega arith in
+    rw all at (trails-all test _ _ all (c.loop-at.invariant.1 test is))

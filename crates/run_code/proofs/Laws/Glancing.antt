@@ -17,6 +17,7 @@ use Rattle.meaning.specs.Runs.{lent, loaded, run_under, run_lent}
 use Rattle.meaning.specs.Packing.{Words, unpack_sentences}
 use Rattle.meaning.specs.Leaving.{after_run}
 use Rattle.meaning.specs.Leaving.{room_of}
+use Rattle.run_cells.specs.Places.{place}
 use Rattle.run_actions.specs.declared.registers.Registers.{Registers}
 use Rattle.answers.specs.declared.Ending.TheVariants.{Finished, NoSentenceFits}
 use Rattle.run_actions.specs.declared.registers.Next.TheVariants.{Done, Stopped}
@@ -41,9 +42,9 @@ foreseen Perhaps allowance choice h g = tt
 abbrev Ended : ℕ → Registers
 Ended count =
     record {
-      p = record { 0 = count };
-      q = record { 0 = count };
-      r = record { 0 = 0 };
+      p = place count;
+      q = place count;
+      r = place 0;
       frame = 0;
       at = record { 0 = 0 };
       steps = 1;

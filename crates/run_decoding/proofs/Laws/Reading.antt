@@ -15,6 +15,8 @@ use Rattle.meaning.specs.Angles.{plus, minus}
 use Rattle.meaning.specs.Instructions.{Action, go, select, out, out_c, out_v, begin_seq, use_seq, call, tail_call, unknown_action}
 use Rattle.meaning.specs.Packing.{Words, number_in, first_in, second_in, third_in, length_of, operation_of, span_action, compute_of, emission_of}
 use Rattle.meaning.specs.Packing.{unpack_actions, use_seq_number}
+use Rattle.code_numbers.specs.declared.operations.Operation.TheVariants.{Plus, Minus}
+use Rattle.run_decoding.specs.declared.CallKind.TheVariants.{Framed, Tail}
 use Rattle.run_decoding.specs.declared.Instruction.{Instruction}
 use Rattle.run_decoding.specs.declared.Write.TheVariants.{Out, OutC, OutV}
 use Rattle.run_decoding.specs.declared.Instruction.TheVariants.{Go, Select, Write as Writes, BeginSeq, UseSeq, Call as Calls, Emit, Compute}
@@ -27,15 +29,15 @@ abbrev instruction_by : ℕ → Bool → Bool → Bool → Bool → Bool → Boo
 instruction_by w b₁₅ b₁₄ b₅ b₆ b₇ b₈ b₉ b₁₀ b₁₁ b₁₂ b₁₃ b₂₁ =
     pick b₁₅ End
     (pick b₁₄ (Emit (first_in w))
-    (pick b₅ (Go w)
-    (pick b₆ (Select w)
+    (pick b₅ (Go (record { 0 = w }))
+    (pick b₆ (Select (record { 0 = w }))
     (pick b₇ (Writes Out)
     (pick b₈ (Writes (OutC (first_in w)))
     (pick b₉ (Writes (OutV (first_in w)))
     (pick b₁₀ BeginSeq
     (pick b₁₁ UseSeq
-    (pick b₁₂ (Calls (call_in false w))
-    (pick b₁₃ (Calls (call_in true w)) (pick b₂₁ (computation_in (first_in w)) Unknown)))))))))))
+    (pick b₁₂ (Calls (call_in Framed w))
+    (pick b₁₃ (Calls (call_in Tail w)) (pick b₂₁ (computation_in (first_in w)) Unknown)))))))))))
 
 module _ (w : ℕ) (ws : Words) where
   abbrev Later : List Action
@@ -43,7 +45,7 @@ module _ (w : ℕ) (ws : Words) where
 
   computation-asked : (zero? one? : Bool) →
       compute_of (pick zero? (some plus) (pick one? (some minus) none)) ∷ Later ≡
-      actions_meant (pick zero? (Compute false) (pick one? (Compute true) Unknown)) ws
+      actions_meant (pick zero? (Compute Plus) (pick one? (Compute Minus) Unknown)) ws
   computation-asked true one? = refl
   computation-asked false true = refl
   computation-asked false false = refl
@@ -85,7 +87,7 @@ module _ (w : ℕ) (ws : Words) where
 
 -- only UseSeq's number gives UseSeq
 module _ (w : ℕ) where
-  computation-used : (zero? one? : Bool) {used? : Bool} → pick zero? (Compute false) (pick one? (Compute true) Unknown) ≡ UseSeq → used? ≡ true
+  computation-used : (zero? one? : Bool) {used? : Bool} → pick zero? (Compute Plus) (pick one? (Compute Minus) Unknown) ≡ UseSeq → used? ≡ true
   computation-used true one? e = let z : ◌≡◌ {A = ℕ} 0 1 = cc in absurd (omega arith)
   computation-used false true e = let z : ◌≡◌ {A = ℕ} 0 1 = cc in absurd (omega arith)
   computation-used false false e = let z : ◌≡◌ {A = ℕ} 0 1 = cc in absurd (omega arith)

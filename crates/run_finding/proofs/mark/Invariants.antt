@@ -1,11 +1,6 @@
--- The loop invariants and measures of `mark`. The loop's invariant: the table of the bytes so far.
-use Prim.Native.Nat.{◌-◌, ◌≤◌}
-use lib.ListN.{length}
+-- The loop invariant of `mark`: the table of the bytes so far.
 use Rattle.run_finding.proofs.Laws.Marking.{Marked}
 use Rattle.run_finding.proofs.mark.Given as goal
 
-abbrev pub invariant-loop-at : goal.invariant-loop-at
-invariant-loop-at l = Marked l.string l.marks l.unit l.at × (l.at ≤ length l.string)
-
-abbrev pub decreases-loop-at : goal.decreases-loop-at
-decreases-loop-at l = length l.string - l.at
+abbrev pub invariant-loop-byte : goal.invariant-loop-byte
+invariant-loop-byte l = Marked l.string l.marks l.unit l.byte-index

@@ -14,11 +14,15 @@ use Rattle.meaning.specs.Choice.{Bytes, pick}
 use Rattle.meaning.specs.Packing.{number_in, first_in, metric_in, Words, tests_in, stores_in, body_in}
 use Rattle.meaning.specs.Packing.{max_stored, sentences_end, unpack_tests, unpack_stores, unpack_actions, unpack_sentences, sentence_of}
 use Rattle.meaning.specs.Instructions.{Metric, exactly, ends, middle, Sentences, sentence, unknown_sentence, Test, Store, Action}
-use Rattle.meaning.specs.Matching.{Found, found_at, found_wrong, check_all, search, Choice}
+use Rattle.meaning.specs.Matching.{Found, found_at, found_wrong, check_all, search}
+use Rattle.meaning.specs.Matching.{Choice as Choosing}
+use Rattle.run_matching.specs.declared.Choice.{Choice}
+use Rattle.run_code_places.specs.declared.Wrong.{Wrong}
 use Rattle.meaning.specs.Matching.{chosen_none, chosen_wrong, choice_of, choose_from, find_place, places_of, first_place}
 use Rattle.meaning.proofs.Laws.Remaining.{at_place, past_end}
-use Rattle.run_matching.specs.declared.Places.TheVariants.{From, Unknown}
-use Rattle.run_matching.specs.Matched.{places_for, tried}
+use Rattle.std.specs.Prelude.{Some, None, Result, Ok, Err, IsErr}
+use Rattle.run_code_places.specs.declared.Places.{Places}
+use Rattle.run_matching.specs.Matched.{places_for, tried, Chooses}
 use Rattle.run_checking.proofs.Laws.Cells.{none_of}
 
 -- a sentence's first word that is none
@@ -48,20 +52,17 @@ few-places (exactly n) whole h = omega (arith, one_at_most (eqb whole n))
 few-places (ends head tail) whole h = omega (arith, one_at_most (leb (head + tail) whole))
 few-places (middle head med tail) whole h = omega arith
 
-few-from : (o : Option Metric) (whole first count : ℕ) → ShortHead o → From first count ≡ places_for o whole → first + count ≤ whole + 256
-few-from none whole first count h e = let z : ◌≡◌ {A = ℕ} 0 1 = cc in absurd (omega arith)
-few-from (some m) whole first count h e =
-    let p : first ≡ first_place m = cc in
-    let q : count ≡ places_of m whole = cc in
-    rw (p, q) (few-places m whole h)
+few-from : (o : Option Metric) (whole : ℕ) (p : Places) → ShortHead o → Some p ≡ places_for o whole → p.first + p.count ≤ whole + 256
+few-from none whole p h e = let z : ◌≡◌ {A = ℕ} 0 1 = cc in absurd (omega arith)
+few-from (some m) whole p h e = let same : p ≡ record { first = first_place m; count = places_of m whole } = cc in rw same (few-places m whole h)
 
-pub places-few : (w whole first count : ℕ) → From first count ≡ places_for (metric_in w) whole → first + count ≤ whole + 256
-places-few w whole first count e =
-    few-from (metric_in w) whole first count
+pub places-few : (w whole : ℕ) (p : Places) → Some p ≡ places_for (metric_in w) whole → p.first + p.count ≤ whole + 256
+places-few w whole p e =
+    few-from (metric_in w) whole p
     (short-head (eqb (number_in w) 16) (eqb (number_in w) 17) (eqb (number_in w) 18) (first_in w) _ _ (omega arith)) e
 
 module _ (v : ℕ) (ws : Words) (field : Bytes) where
-  pub tried-unknown : (o : Option Metric) (whole : ℕ) → Unknown ≡ places_for o whole → tried o v ws field ≡ found_wrong
+  pub tried-unknown : (o : Option Metric) (whole : ℕ) → None ≡ places_for o whole → tried o v ws field ≡ found_wrong
   tried-unknown none whole e = refl
   tried-unknown (some m) whole e = let z : ◌≡◌ {A = ℕ} 0 1 = cc in absurd (omega arith)
 
@@ -69,13 +70,12 @@ module _ (v : ℕ) (ws : Words) (field : Bytes) where
   tried-many none h = refl
   tried-many (some m) h = rw (lt-leb (stores_in v) max_stored h)
 
-  pub tried-places : (o : Option Metric) (first count : ℕ) → From first count ≡ places_for o (length field) → stores_in v ≤ max_stored →
-      tried o v ws field ≡ search (check_all (unpack_tests (tests_in v) ws) field) count first
-  tried-places none first count e h = let z : ◌≡◌ {A = ℕ} 0 1 = cc in absurd (omega arith)
-  tried-places (some m) first count e h =
-      let p : first ≡ first_place m = cc in
-      let q : count ≡ places_of m (length field) = cc in
-      rw (le-leb (stores_in v) max_stored h, p, q)
+  pub tried-places : (o : Option Metric) (p : Places) → Some p ≡ places_for o (length field) → stores_in v ≤ max_stored →
+      tried o v ws field ≡ search (check_all (unpack_tests (tests_in v) ws) field) p.count p.first
+  tried-places none p e h = let z : ◌≡◌ {A = ℕ} 0 1 = cc in absurd (omega arith)
+  tried-places (some m) p e h =
+      let same : p ≡ record { first = first_place m; count = places_of m (length field) } = cc in
+      rw (le-leb (stores_in v) max_stored h, same)
 
   few-picked : (b : Bool) (f : Found) (at : ℕ) → leb (stores_in v) max_stored ≡ b → found_at at ≡ pick b f found_wrong → stores_in v ≤ max_stored
   few-picked true f at p e = leb-true (stores_in v) max_stored p
@@ -97,7 +97,7 @@ skipped (suc skip) (w ∷ ws) = skipped skip ws
 
 module _ (words : Words) (field : Bytes) where
   -- the choice among the sentences from a place on
-  abbrev pub choosing : ℕ → Choice
+  abbrev pub choosing : ℕ → Choosing
   choosing at = choose_from (unpack_sentences 0 (drop at words)) field
 
   pub choosing-past : (at : ℕ) → length words ≤ at → choosing at ≡ chosen_wrong
@@ -162,3 +162,8 @@ module _ (words : Words) (field : Bytes) where
         ← (add_assoc (at + 2) (tests_in v) (stores_in v)),
         ← (add_assoc at 2 (body_in v)),
       )
+
+-- a sentence that asks for what isn't there chooses none
+pub chooses_refused : (words : Words) (r : Result Choice Wrong) (choosing : Choosing) → IsErr r → chosen_wrong ≡ choosing → Chooses words r choosing
+chooses_refused words (Ok choice) choosing h e = let z : ◌≡◌ {A = ℕ} 0 1 = cc in absurd (omega arith)
+chooses_refused words (Err w) choosing h e = record { same = e; few = tt }

@@ -10,17 +10,16 @@ use lib.Dec.{leb, ltb, eqb}
 use lib.ListN.{length, take, drop, length-drop}
 use lib.Seq.{take-take, take-nil, drop-drop, length-take-le}
 use borrow.Author.Tests.{le-leb, lt-ltb, le-ltb, leb-true, leb-false, ltb-true, ltb-false}
-use Rattle.meaning.specs.Choice.{Bytes, pick}
-use Rattle.meaning.specs.Classes.{same_truth}
+use Rattle.meaning.specs.Choice.{Bytes}
+use Rattle.meaning.specs.Classes.{Class, in_class, same_truth}
 use Rattle.meaning.specs.Instructions.{Site, from_place}
 use Rattle.meaning.specs.Matching.{Checked, checked, check}
 use Rattle.meaning.specs.Packing.{number_in, first_in, second_in, third_in, site_of, class_of, predicate_part_for, predicate_part_of, test_of}
-use Rattle.byte_classes.specs.Tests.{class_test}
-use Rattle.run_narrowing.specs.declared.Sifted.{Sifted}
-use Rattle.run_narrowing.specs.declared.Sifted.TheVariants.{Among}
+use Rattle.std.specs.Prelude.{Some}
+use Rattle.run_code_places.specs.declared.Places.{Places}
 use Rattle.run_sites.specs.Sites.{site_before}
 use Rattle.run_class_runs.specs.Runs.{Leads, Trails}
-use Rattle.run_narrowing.specs.Narrowed.{Sifts}
+use Rattle.run_narrowing.specs.Narrowed.{part_of, NarrowsTo}
 use Rattle.run_sites.proofs.Laws.Sites.{site-most}
 use Rattle.run_checking.proofs.Laws.Parts.{part-told}
 use Rattle.run_narrowing.proofs.Laws.Moving.{Apart, site-apart, before-still}
@@ -30,7 +29,7 @@ use Rattle.run_narrowing.proofs.Laws.Moving.{Apart, site-apart, before-still}
 module _ (c : ℕ → Checked) (first places turn : ℕ) (h : turn ≤ places) where
   -- the condition passes before the turn and fails from it on, or the other way round
   pub turns : (early : Bool) → ((p : ℕ) → first ≤ p → p < first + places → c p ≡ checked (same_truth early (ltb (p - first) turn))) →
-      Sifts (pick early (Among first turn) (Among (first + turn) (places - turn))) c first places
+      NarrowsTo (Some (part_of early first places turn)) c first places
   turns true e =
       record {
         begins = omega arith;
@@ -97,7 +96,7 @@ parts-length first k fixed p h h' = omega arith
 before-turn : (d j lead places : ℕ) → j < places → leb (d + j) lead ≡ ltb j (min (lead + 1 - d) places)
 before-turn d j lead places h = same_test (d + j) lead j (min (lead + 1 - d) places) (λ a. omega arith) (λ a. omega arith)
 
-module _ (field : Bytes) (first places n k fixed : ℕ) (expected : Bool) (o : Option Site) (class : n ≤ 4) (apart : Apart o)
+module _ (field : Bytes) (first places n k fixed : ℕ) (expected : Bool) (o : Option Site) (class : Class) (numbered : some class ≡ class_of n) (apart : Apart o)
     (e : some fixed ≡ site_before o (length field) first) where
   site-there : (p : ℕ) → some fixed ≡ site_before o (length field) p
   site-there p = e ∙ by-site o apart
@@ -111,7 +110,7 @@ module _ (field : Bytes) (first places n k fixed : ℕ) (expected : Bool) (o : O
 
   -- the part ends at the place
   module _ (lead : ℕ) (some-place : 0 < places) (begins : fixed ≤ first + k) (ends : first + k + (places - 1) ≤ length field)
-      (l : Leads (class_test n) (take (first + k + (places - 1) - fixed) (drop fixed field)) lead) where
+      (l : Leads (in_class class) (take (first + k + (places - 1) - fixed) (drop fixed field)) lead) where
     pub first_says : (p : ℕ) → first ≤ p → p < first + places →
         check (predicate_part_for o (some (from_place k)) (class_of n) expected) field p ≡
         checked (same_truth expected (ltb (p - first) (min (lead + 1 - (first + k - fixed)) places)))
@@ -120,13 +119,13 @@ module _ (field : Bytes) (first places n k fixed : ℕ) (expected : Bool) (o : O
         let within : length (take (first + k + (places - 1) - fixed) (drop fixed field)) ≡ first + k + (places - 1) - fixed =
         length-take-le (first + k + (places - 1) - fixed) (drop fixed field) (rw (length-drop fixed field) (omega arith)) in
         let each = l.each (p + k - fixed) (rw within shorter) in
-        part-told o (some (from_place k)) expected field p n class fixed (p + k) (site-there p) (place-there p (omega arith)) (omega arith) ∙
+        part-told o (some (from_place k)) expected field p n class numbered fixed (p + k) (site-there p) (place-there p (omega arith)) (omega arith) ∙
         rw (← (take-take (p + k - fixed) (first + k + (places - 1) - fixed) (drop fixed field) shorter), each, parts-length first k fixed p begins h)
         (ap (λ (b : Bool). checked (same_truth expected b)) (before-turn (first + k - fixed) (p - first) lead places (index first places p h h')))
 
   -- it begins so far after the place
   module _ (trail : ℕ) (some-place : 0 < places) (ends : first + k + (places - 1) ≤ fixed)
-      (l : Trails (class_test n) (take (fixed - (first + k)) (drop (first + k) field)) trail) where
+      (l : Trails (in_class class) (take (fixed - (first + k)) (drop (first + k) field)) trail) where
     pub second-says : (p : ℕ) → first ≤ p → p < first + places →
         check (predicate_part_for (some (from_place k)) o (class_of n) expected) field p ≡
         checked (same_truth (not expected) (ltb (p - first) (min trail places)))
@@ -137,19 +136,19 @@ module _ (field : Bytes) (first places n k fixed : ℕ) (expected : Bool) (o : O
         let within : length (take (fixed - (first + k)) (drop (first + k) field)) ≡ fixed - (first + k) =
         length-take-le (fixed - (first + k)) (drop (first + k) field) (rw (length-drop (first + k) field) (omega arith)) in
         let each = l.each (p - first) (rw within (omega arith)) in
-        part-told (some (from_place k)) o expected field p n class (p + k) fixed (place-there p (omega arith)) (site-there p) (omega arith) ∙
+        part-told (some (from_place k)) o expected field p n class numbered (p + k) fixed (place-there p (omega arith)) (site-there p) (omega arith) ∙
         rw (rw (drop-take (p - first) (fixed - (first + k)) (drop (first + k) field), drop-drop (p - first) (first + k) field, rest, there) at each)
         (ap checked (other_test expected trail (p - first) (p - first) (min trail places) (λ a. omega arith) (λ a. omega arith)))
 
 -- BY THE WORD
 
-module _ (field : Bytes) (w first places fixed : ℕ) (r : Sifted) (number : number_in w ≡ 20) (class : first_in w / 32 ≤ 4)
-    (some-place : 0 < places) where
+module _ (field : Bytes) (w first places fixed : ℕ) (r : Places) (number : number_in w ≡ 20) (class : Class)
+    (numbered : some class ≡ class_of (first_in w / 32)) (some-place : 0 < places) where
   pub first-sifted : (nearest lead turn : ℕ) (early : Bool) → first_in w / 4 % 4 ≡ 2 → (first_in w % 4 ≡ 2 → ⊥) →
       some fixed ≡ site_before (site_of (first_in w % 4) (second_in w)) (length field) first → nearest ≡ first + third_in w → fixed ≤ nearest →
-      nearest + (places - 1) ≤ length field → Leads (class_test (first_in w / 32)) (take (nearest + (places - 1) - fixed) (drop fixed field)) lead →
+      nearest + (places - 1) ≤ length field → Leads (in_class class) (take (nearest + (places - 1) - fixed) (drop fixed field)) lead →
       turn ≡ min (lead + 1 - (nearest - fixed)) places → early ≡ eqb (first_in w / 16 % 2) 1 →
-      r ≡ pick early (Among first turn) (Among (first + turn) (places - turn)) → Sifts r (check (test_of w) field) first places
+      r ≡ part_of early first places turn → NarrowsTo (Some r) (check (test_of w) field) first places
   first-sifted nearest lead turn early register apart e near begins ends leads turned truth same =
       rw same (turns (check (test_of w) field) first places turn (rw turned (omega arith)) early says)
     where
@@ -157,13 +156,13 @@ module _ (field : Bytes) (w first places fixed : ℕ) (r : Sifted) (number : num
       says p h h' =
           rw (part-test w number, register, turned, truth, near)
           (first_says field first places (first_in w / 32) (third_in w) fixed (eqb (first_in w / 16 % 2) 1) (site_of (first_in w % 4) (second_in w))
-          class (site-apart (first_in w % 4) (second_in w) apart) e lead some-place (rw near at begins) (rw near at ends) (rw near at leads) p h h')
+          class numbered (site-apart (first_in w % 4) (second_in w) apart) e lead some-place (rw near at begins) (rw near at ends) (rw near at leads) p h h')
 
   pub second-sifted : (nearest trail turn : ℕ) (early : Bool) → first_in w % 4 ≡ 2 → (first_in w / 4 % 4 ≡ 2 → ⊥) →
       some fixed ≡ site_before (site_of (first_in w / 4 % 4) (third_in w)) (length field) first → nearest ≡ first + second_in w →
-      nearest + (places - 1) ≤ fixed → Trails (class_test (first_in w / 32)) (take (fixed - nearest) (drop nearest field)) trail →
+      nearest + (places - 1) ≤ fixed → Trails (in_class class) (take (fixed - nearest) (drop nearest field)) trail →
       turn ≡ min trail places → early ≡ not (eqb (first_in w / 16 % 2) 1) →
-      r ≡ pick early (Among first turn) (Among (first + turn) (places - turn)) → Sifts r (check (test_of w) field) first places
+      r ≡ part_of early first places turn → NarrowsTo (Some r) (check (test_of w) field) first places
   second-sifted nearest trail turn early register apart e near ends trails turned truth same =
       rw same (turns (check (test_of w) field) first places turn (rw turned (omega arith)) early says)
     where
@@ -171,4 +170,4 @@ module _ (field : Bytes) (w first places fixed : ℕ) (r : Sifted) (number : num
       says p h h' =
           rw (part-test w number, register, turned, truth)
           (second-says field first places (first_in w / 32) (second_in w) fixed (eqb (first_in w / 16 % 2) 1)
-          (site_of (first_in w / 4 % 4) (third_in w)) class (site-apart (first_in w / 4 % 4) (third_in w) apart) e trail some-place (rw near at ends) (rw near at trails) p h h')
+          (site_of (first_in w / 4 % 4) (third_in w)) class numbered (site-apart (first_in w / 4 % 4) (third_in w) apart) e trail some-place (rw near at ends) (rw near at trails) p h h')

@@ -9,6 +9,8 @@ use Rattle.meaning.specs.Choice.{Bytes}
 use Rattle.meaning.specs.Matching.{check, check_all, wrong, Found}
 use Rattle.meaning.specs.Matching.{search as searched}
 use Rattle.meaning.specs.Packing.{Words, number_in, test_of, unpack_tests}
+use Rattle.std.specs.Prelude.{Option, Some, None}
+use Rattle.run_searching.specs.Searches.{place_meant}
 use Rattle.run_narrowing.specs.Narrowed.{asks_place, NeverWrong}
 use Rattle.run_narrowing.proofs.Laws.Ranges.{checked_of, one-said, right-before, passes-all, fails-all}
 use Rattle.run_narrowing.proofs.Laws.Moving.{still, wrong-on}
@@ -37,26 +39,25 @@ module _ (field : Bytes) (code : Words) (at : ℕ) (there : at < length code) wh
   fixed : (first : ℕ) → asks_place word ≡ false → (p : ℕ) → check (test_of word) field p ≡ check (test_of word) field first
   fixed first e p = still field p first word e
 
-pub returns-in-At : goal.returns-in-At
-returns-in-At c =
-    let a = c.args in
-    kept a.field.now a.code.now a.at c.requires.at_in_bounds a.first a.places _ c.if-word-eq-PREDICATE_PART.false c.in-At.ensures
-    (λ e. let z : ◌≡◌ {A = ℕ} 0 1 = cc in omega arith)
+-- a search that isn't refused finds a place or none
+found_right : (place : Option ℕ) → checked_of (place_meant place) ≡ wrong → ⊥
+found_right (Some at) e = let z : ◌≡◌ {A = ℕ} 0 1 = cc in omega arith
+found_right None e = let z : ◌≡◌ {A = ℕ} 0 1 = cc in omega arith
 
-pub returns-in-Nowhere : goal.returns-in-Nowhere
-returns-in-Nowhere c =
+pub returns-in-Ok-Some : goal.returns-in-Ok-Some
+returns-in-Ok-Some c =
     let a = c.args in
-    kept a.field.now a.code.now a.at c.requires.at_in_bounds a.first a.places _ c.if-word-eq-PREDICATE_PART.false c.in-Nowhere.ensures
-    (λ e. let z : ◌≡◌ {A = ℕ} 0 1 = cc in omega arith)
+    passes-all _ _ _ (fixed a.field.now a.code.now a.at c.requires.at_in_bounds a.first (sym c.if-not-asks_place.ensures))
+    (same a.field.now a.code.now a.at c.requires.at_in_bounds a.first _ (rw c.in-Ok-Some.field-0-is at c.in-Ok-Some.ensures))
 
-pub returns-in-At-search : goal.returns-in-At-search
-returns-in-At-search c =
+pub returns-in-Ok-None : goal.returns-in-Ok-None
+returns-in-Ok-None c =
     let a = c.args in
-    passes-all _ _ _ (fixed a.field.now a.code.now a.at c.requires.at_in_bounds a.first (sym c.if-asks_place.ensures))
-    (same a.field.now a.code.now a.at c.requires.at_in_bounds a.first _ c.in-At-search.ensures)
+    fails-all _ _ _ (fixed a.field.now a.code.now a.at c.requires.at_in_bounds a.first (sym c.if-not-asks_place.ensures))
+    (same a.field.now a.code.now a.at c.requires.at_in_bounds a.first _ (rw c.in-Ok-None.field-0-is at c.in-Ok-None.ensures))
 
-pub returns-in-Nowhere-search : goal.returns-in-Nowhere-search
-returns-in-Nowhere-search c =
+pub returns-in-Ok : goal.returns-in-Ok
+returns-in-Ok c =
     let a = c.args in
-    fails-all _ _ _ (fixed a.field.now a.code.now a.at c.requires.at_in_bounds a.first (sym c.if-asks_place.ensures))
-    (same a.field.now a.code.now a.at c.requires.at_in_bounds a.first _ c.in-Nowhere-search.ensures)
+    kept a.field.now a.code.now a.at c.requires.at_in_bounds a.first a.places _ (rw c.number.ensures at c.if-number-eq-PREDICATE_PART.false)
+    c.in-Ok.ensures (found_right c.in-Ok.field-0)

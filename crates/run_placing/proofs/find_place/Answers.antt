@@ -1,6 +1,7 @@
 -- The facts about `find_place` that the check is told: of no places none is found, one Look is scanned for, and after
 -- the head the tests that are left decide.
 use native.Mathlib.Omega.{arith}
+use Prim.Native.Nat.{◌≤◌}
 use mathlib.Core.Path.{sym, ◌∙◌}
 use Rattle.run_checking.proofs.Laws.Testing.{no-tests}
 use Rattle.run_searching.proofs.Laws.Places.{no-places, search-none, search-first}
@@ -21,5 +22,6 @@ returns-in_default c = sym (search-none _ _ _ (λ p h h'. c.in_default.ensures p
 pub returns-then-left-eq0 : goal.returns-then-left-eq0
 returns-then-left-eq0 c =
     let a = c.args in
+    let none : c.in-Some.left ≤ 0 = omega arith in
     sym (search-first _ _ _ (omega arith)
-    (c.in-Passed.ensures a.first ∙ no-tests a.field.now a.first a.code.now c.in-Passed.rest.0 _ (omega arith)))
+    (c.in-Some.ensures a.first ∙ no-tests a.field.now a.first a.code.now c.in-Some.rest.0 _ none))

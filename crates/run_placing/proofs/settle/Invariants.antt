@@ -12,7 +12,7 @@ invariant-loop-left l =
     Reached (check_all (unpack_tests l.initial.left (drop l.initial.at l.code)) l.field)
     (check_all (unpack_tests l.size l.kept) l.field)
     (check_all (unpack_tests l.left (drop l.at l.code)) l.field)
-    l.initial.from l.initial.among l.from l.among ×
+    l.initial.among.first l.initial.among.count l.among.first l.among.count ×
     (length l.kept ≡ length l.initial.kept)
 
 abbrev pub decreases-loop-left : goal.decreases-loop-left

@@ -4,7 +4,10 @@ use native.Mathlib.Nat.{not-suc-le-zero}
 use native.Mathlib.Numerals.{add-one, sub-one}
 use native.Mathlib.Omega.{arith}
 use mathlib.Core.Path.{◌≡◌, refl, ◌∙◌}
-use Rattle.meaning.specs.Matching.{Checked, passed, failed, found_at, found_none, settled, search}
+use Rattle.std.specs.Prelude.{Option, Result, Ok, Err, IsErr}
+use Rattle.meaning.specs.Matching.{Checked, passed, failed, found_at, found_none, found_wrong, settled, search}
+use Rattle.run_code_places.specs.declared.Wrong.{Wrong}
+use Rattle.run_searching.specs.Searches.{found_meant}
 
 module _ (test : ℕ → Checked) where
   pub no-places : (left place : ℕ) → left ≤ 0 → search test left place ≡ found_none
@@ -16,6 +19,19 @@ module _ (test : ℕ → Checked) where
   unfolding search
   next_place zero place h = absurd (not-suc-le-zero h)
   next_place (suc n) place h = rw (sub-one, add-one)
+
+  -- the same, counted up to the place after the last
+  pub range_next : (last place : ℕ) → place < last →
+      search test (last - place) place ≡ settled (test place) place (search test (last - (place + 1)) (place + 1))
+  range_next last place h =
+      let some : 0 < last - place = omega arith in
+      let rest : last - (place + 1) ≡ last - place - 1 = omega arith in
+      rw rest (next_place (last - place) place some)
+
+-- a test that asks for what isn't there finds nothing
+pub search_refused : (r : Result (Option ℕ) Wrong) → IsErr r → found_meant r ≡ found_wrong
+search_refused (Ok place) e = let z : ◌≡◌ {A = ℕ} 0 1 = cc in absurd (omega arith)
+search_refused (Err w) e = refl
 
 -- tests that say the same at each place of a range find the same there
 pub search-agree : (F G : ℕ → Checked) (n first : ℕ) → ((p : ℕ) → first ≤ p → p < first + n → F p ≡ G p) → search F n first ≡ search G n first

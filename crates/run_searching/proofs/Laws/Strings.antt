@@ -15,9 +15,8 @@ use Rattle.meaning.specs.Instructions.{from_place, look, Test}
 use Rattle.meaning.specs.Matching.{checked, wrong, Checked, passed, failed, where_passed}
 use Rattle.meaning.specs.Matching.{check_all, Found, found_at, found_none, found_wrong, settled, search}
 use Rattle.meaning.specs.Packing.{second_in, third_in, test_of, Words, unpack_tests}
-use Rattle.run_finding.specs.Occurrences.{leftmost_occurrence, suited, occurrence, occurrence_of}
-use Rattle.run_finding.specs.declared.Occurrence.{Occurrence}
-use Rattle.run_finding.specs.declared.Occurrence.TheVariants.{At, Nowhere, Unsuited}
+use Rattle.std.specs.Prelude.{Some, None, Ok, Err}
+use Rattle.run_finding.specs.Occurrences.{leftmost_occurrence, suited, Occurrence, unsuited, occurrence, occurrence_of}
 use Rattle.run_searching.specs.Searches.{looks, Spelled}
 use Rattle.run_sites.proofs.Laws.Lists.{nth_in}
 use Rattle.run_checking.proofs.Laws.Cells.{look-from}
@@ -126,12 +125,12 @@ module _ (string field : Bytes) (places first : ℕ) where
       }
 
   -- an occurrence that is looked for
-  looked-for : (o : Occurrence) → o ≡ occurrence string field places first → (o ≡ Unsuited → ⊥) →
+  looked-for : (o : Occurrence) → o ≡ occurrence string field places first → (o ≡ Err unsuited → ⊥) →
       Suited string field places first × (o ≡ occurrence_of (leftmost_occurrence string field places first))
   looked-for o e ne = by-test (suited (length string) (length field) places first) refl e
     where
       by-test : (b : Bool) → suited (length string) (length field) places first ≡ b →
-          o ≡ pick b (occurrence_of (leftmost_occurrence string field places first)) Unsuited →
+          o ≡ pick b (occurrence_of (leftmost_occurrence string field places first)) (Err unsuited) →
           Suited string field places first × (o ≡ occurrence_of (leftmost_occurrence string field places first))
       by-test true s h = (is-suited s, h)
       by-test false s h = absurd (ne h)
@@ -140,7 +139,7 @@ module _ (string field : Bytes) (places first offset : ℕ) where
   abbrev finding : Found
   finding = search (check_all (looks offset string) field) places first
 
-  string-found : (o : Occurrence) → o ≡ occurrence string field places (first + offset) → (o ≡ Unsuited → ⊥) →
+  string-found : (o : Occurrence) → o ≡ occurrence string field places (first + offset) → (o ≡ Err unsuited → ⊥) →
       o ≡ occurrence_of (moved offset finding)
   string-found o e ne =
       let looked = looked-for string field places (first + offset) o e ne in
@@ -150,28 +149,28 @@ module _ (string field : Bytes) (places first offset : ℕ) where
       (λ p h h'. looks-start field string offset p (omega (arith, looked.0.size, looked.0.room))) in
       rw (same, ← (search-moved starts offset places first)) looked.1
 
-  at_place : (f : Found) (q : ℕ) → At q ≡ occurrence_of (moved offset f) → found_at (q - offset) ≡ f
+  at_place : (f : Found) (q : ℕ) → Ok (Some q) ≡ occurrence_of (moved offset f) → found_at (q - offset) ≡ f
   at_place (found_at p) q e = let same : q ≡ p + offset = cc in let back : q - offset ≡ p = omega arith in rw back
   at_place found_none q e = let z : ◌≡◌ {A = ℕ} 0 1 = cc in absurd (omega arith)
   at_place found_wrong q e = let z : ◌≡◌ {A = ℕ} 0 1 = cc in absurd (omega arith)
 
-  at_least : (f : Found) (q : ℕ) → At q ≡ occurrence_of (moved offset f) → offset ≤ q
+  at_least : (f : Found) (q : ℕ) → Ok (Some q) ≡ occurrence_of (moved offset f) → offset ≤ q
   at_least (found_at p) q e = let same : q ≡ p + offset = cc in omega arith
   at_least found_none q e = let z : ◌≡◌ {A = ℕ} 0 1 = cc in absurd (omega arith)
   at_least found_wrong q e = let z : ◌≡◌ {A = ℕ} 0 1 = cc in absurd (omega arith)
 
-  no_place : (f : Found) → Nowhere ≡ occurrence_of (moved offset f) → found_none ≡ f
+  no_place : (f : Found) → Ok None ≡ occurrence_of (moved offset f) → found_none ≡ f
   no_place (found_at p) e = let z : ◌≡◌ {A = ℕ} 0 1 = cc in absurd (omega arith)
   no_place found_none e = refl
   no_place found_wrong e = let z : ◌≡◌ {A = ℕ} 0 1 = cc in absurd (omega arith)
 
   module _ (tests : List Test) (spelled : Spelled offset string tests) where
-    pub string-at : (q : ℕ) → At q ≡ occurrence string field places (first + offset) →
+    pub string-at : (q : ℕ) → Ok (Some q) ≡ occurrence string field places (first + offset) →
         found_at (q - offset) ≡ search (check_all tests field) places first
-    string-at q e = rw spelled.same (at_place finding q (string-found (At q) e (λ h. let z : ◌≡◌ {A = ℕ} 0 1 = cc in omega arith)))
+    string-at q e = rw spelled.same (at_place finding q (string-found (Ok (Some q)) e (λ h. let z : ◌≡◌ {A = ℕ} 0 1 = cc in omega arith)))
 
-    pub string-after : (q : ℕ) → At q ≡ occurrence string field places (first + offset) → offset ≤ q
-    string-after q e = at_least finding q (string-found (At q) e (λ h. let z : ◌≡◌ {A = ℕ} 0 1 = cc in omega arith))
+    pub string-after : (q : ℕ) → Ok (Some q) ≡ occurrence string field places (first + offset) → offset ≤ q
+    string-after q e = at_least finding q (string-found (Ok (Some q)) e (λ h. let z : ◌≡◌ {A = ℕ} 0 1 = cc in omega arith))
 
-    pub string-nowhere : Nowhere ≡ occurrence string field places (first + offset) → found_none ≡ search (check_all tests field) places first
-    string-nowhere e = rw spelled.same (no_place finding (string-found Nowhere e (λ h. let z : ◌≡◌ {A = ℕ} 0 1 = cc in omega arith)))
+    pub string-nowhere : Ok None ≡ occurrence string field places (first + offset) → found_none ≡ search (check_all tests field) places first
+    string-nowhere e = rw spelled.same (no_place finding (string-found (Ok None) e (λ h. let z : ◌≡◌ {A = ℕ} 0 1 = cc in omega arith)))

@@ -1,15 +1,14 @@
 -- The facts about `find_string` that the check is told: where the string stands, the places that are searched are.
-use native.Mathlib.Nat.{sub-zero}
 use Rattle.run_searching.proofs.Laws.Strings.{string-at, string-after, string-nowhere}
 use Rattle.run_searching.proofs.find_string.Goals as goal
 
 pub overflow_sub-result : goal.overflow_sub-result
 overflow_sub-result c =
     let a = c.args in
-    string-after _ a.field.now a.places a.first _ _ c.in-String.ensures _ (simp sub-zero at c.in-At.ensures)
+    string-after _ a.field.now a.places a.first _ _ (rw c.in_ok-offset.ensures.ok_part at c.string_of.ensures) _ (rw c.in-Some.is at c.in_ok-place.ensures)
 
-pub returns-in-At : goal.returns-in-At
-returns-in-At c = string-at _ _ _ _ _ _ c.in-String.ensures _ (simp sub-zero at c.in-At.ensures)
+pub returns-in-Some : goal.returns-in-Some
+returns-in-Some c = string-at _ _ _ _ _ _ (rw c.in_ok-offset.ensures.ok_part at c.string_of.ensures) _ (rw c.in-Some.is at c.in_ok-place.ensures)
 
-pub returns-in-Nowhere : goal.returns-in-Nowhere
-returns-in-Nowhere c = string-nowhere _ _ _ _ _ _ c.in-String.ensures (simp sub-zero at c.in-Nowhere.ensures)
+pub returns-in-None : goal.returns-in-None
+returns-in-None c = string-nowhere _ _ _ _ _ _ (rw c.in_ok-offset.ensures.ok_part at c.string_of.ensures) (rw c.in-None.is at c.in_ok-place.ensures)

@@ -1,25 +1,29 @@
 -- The facts about `scan` that the check is told: the cell that is looked at is there, and decides at its place.
 use native.Mathlib.Omega.{arith}
-use Prim.Native.Nat.{◌+◌, ◌<◌}
+use Prim.Native.Nat.{◌+◌, ◌-◌, ◌≤◌, ◌<◌}
+use mathlib.Core.Path.{◌≡◌}
 use lib.ListN.{length}
 use Rattle.meaning.specs.Packing.{second_in, third_in}
 use Rattle.run_searching.proofs.Laws.Places.{no-places}
 use Rattle.run_searching.proofs.Laws.Scanning.{scan-here, scan-on}
 use Rattle.run_searching.proofs.scan.Goals as goal
 
-pub returns-then-field-index : goal.returns-then-field-index
-returns-then-field-index c =
-    let there : c.loop-left.here + second_in c.args.word < length c.args.field.now = omega (arith, c.loop-left.invariant.1) in
-    rw (scan-here _ _ (third_in c.args.word) _ _ c.loop-left-test.true there (rw c.wide-offset.ensures at c.if-field-index.true)) at
-    c.loop-left.invariant.0
+pub returns-then-field-place : goal.returns-then-field-place
+returns-then-field-place c =
+    let there : c.loop-place.place + second_in c.args.word.0 < length c.args.field.now = omega (arith, c.requires) in
+    let some : 0 < c.args.first + c.args.places - c.loop-place.place = omega arith in
+    let here = rw (c.wide-offset.ensures, c.second.ensures, c.third-byte.ensures) at c.if-field-place.true in
+    rw (scan-here _ _ (third_in c.args.word.0) _ _ some there here) at c.loop-place.invariant
 
-pub loop-left-preserved : goal.loop-left-preserved
-loop-left-preserved c =
-    let there : c.loop-left.here + second_in c.args.word < length c.args.field.now = omega (arith, c.loop-left.invariant.1) in (
-      rw (scan-on _ _ (third_in c.args.word) _ _ c.loop-left-test.true there (rw c.wide-offset.ensures at c.if-field-index.false)) at
-          c.loop-left.invariant.0,
-      omega arith,
-    )
+pub loop-place-preserved : goal.loop-place-preserved
+loop-place-preserved c =
+    let there : c.loop-place.place + second_in c.args.word.0 < length c.args.field.now = omega (arith, c.requires) in
+    let some : 0 < c.args.first + c.args.places - c.loop-place.place = omega arith in
+    let other = rw (c.wide-offset.ensures, c.second.ensures, c.third-byte.ensures) at c.if-field-place.false in
+    let rest : c.args.first + c.args.places - (c.loop-place.place + 1) ≡ c.args.first + c.args.places - c.loop-place.place - 1 = omega arith in
+    rw rest (rw (scan-on _ _ (third_in c.args.word.0) _ _ some there other) at c.loop-place.invariant)
 
 pub returns : goal.returns
-returns c = rw (no-places _ _ _ c.loop-left-test.false) at c.loop-left.invariant.0
+returns c =
+    let none : c.args.first + c.args.places - c.loop-place.place ≤ 0 = omega arith in
+    rw (no-places _ _ _ none) at c.loop-place.invariant

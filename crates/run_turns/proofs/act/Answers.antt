@@ -32,36 +32,37 @@ pub returns-then-code-at : goal.returns-then-code-at
 returns-then-code-at c = record {
   simulates =
       let a = c.requires.acting_invariant in
-      does-step _ _
-      (turn-unknown _ _ _ _ a.idle [] a.invariant (actions-none c.args.code.now c.args.g.at.0 c.if-code-at.true) c.args.g refl refl
-      refl);
+      rw c.stopped.ensures
+      (does-step _ _
+      (turn-unknown _ _ _ _ a.idle [] a.invariant (actions-none c.args.program.code.now c.args.g.at.0 c.if-code-at.true) c.args.g refl refl
+      refl));
 }
 
 pub returns-in-Go : goal.returns-in-Go
 returns-in-Go c = record {
   simulates =
-      acts c.args.code.now _ _ _ c.requires.acting_invariant c.if-code-at.false _ (rw c.in-Go.is at c.decode.ensures)
+      acts c.args.program.code.now _ _ _ c.requires.acting_invariant c.if-code-at.false _ (rw c.in-Go.is at c.decode.ensures)
       _ _ refl (omega arith) _ _ refl (c.go.ensures.implements _ _ _);
 }
 
 pub returns-in-Select : goal.returns-in-Select
 returns-in-Select c = record {
   simulates =
-      acts c.args.code.now _ _ _ c.requires.acting_invariant c.if-code-at.false _ (rw c.in-Select.is at c.decode.ensures)
+      acts c.args.program.code.now _ _ _ c.requires.acting_invariant c.if-code-at.false _ (rw c.in-Select.is at c.decode.ensures)
       _ _ refl (omega arith) _ _ refl (c.select.ensures.implements _ _ _);
 }
 
 pub returns-in-Write : goal.returns-in-Write
 returns-in-Write c = record {
   simulates =
-      acts c.args.code.now _ _ _ c.requires.acting_invariant c.if-code-at.false _ (rw c.in-Write.is at c.decode.ensures)
+      acts c.args.program.code.now _ _ _ c.requires.acting_invariant c.if-code-at.false _ (rw c.in-Write.is at c.decode.ensures)
       _ _ refl (omega arith) _ _ (rw c.write.auto.output) (c.write.ensures.implements _);
 }
 
 pub returns-in-BeginSeq : goal.returns-in-BeginSeq
 returns-in-BeginSeq c = record {
   simulates =
-      acts c.args.code.now _ _ _ c.requires.acting_invariant c.if-code-at.false _ (rw c.in-BeginSeq.is at c.decode.ensures)
+      acts c.args.program.code.now _ _ _ c.requires.acting_invariant c.if-code-at.false _ (rw c.in-BeginSeq.is at c.decode.ensures)
       _ _ refl (omega arith) _ _ refl
       (c.begin_seq.ensures.implements _ _ _ _ c.requires.acting_invariant.invariant.ready.room.written.below);
 }
@@ -72,22 +73,22 @@ returns-else-crowded c = record {
       let a = c.requires.acting_invariant in
       does-step _ _
       (turn-simulates _ _ _ _ a.idle _ (c.args.g.at.0 + 1) _ _ c.if-code-at.false a.invariant
-      (actions-at c.args.code.now _ _ (rw c.in-Call.is at c.decode.ensures) c.if-code-at.false)
+      (actions-at c.args.program.code.now _ _ (rw c.in-Call.is at c.decode.ensures) c.if-code-at.false)
       (c.call.ensures.simulates _ _ _ _));
 }
 
 pub returns-in-Emit : goal.returns-in-Emit
 returns-in-Emit c = record {
   simulates =
-      let named = actions-named c.args.code.now (c.args.g.at.0 + 1) c.in-Emit.length in
-      acts c.args.code.now _ _ _ c.requires.acting_invariant c.if-code-at.false _ (rw c.in-Emit.is at c.decode.ensures)
-      _ _ (rw named) (omega arith) _ _ (rw c.emit.auto.«record») (c.emit.ensures.implements _ _ _);
+      let named = actions-named c.args.program.code.now (c.args.g.at.0 + 1) c.in-Emit.length in
+      acts c.args.program.code.now _ _ _ c.requires.acting_invariant c.if-code-at.false _ (rw c.in-Emit.is at c.decode.ensures)
+      _ _ (rw named) (omega arith) _ _ (rw c.emit.auto.emissions) (c.emit.ensures.implements _ _ _);
 }
 
 pub returns-in-Compute : goal.returns-in-Compute
 returns-in-Compute c = record {
   simulates =
-      acts c.args.code.now _ _ _ c.requires.acting_invariant c.if-code-at.false _ (rw c.in-Compute.is at c.decode.ensures)
+      acts c.args.program.code.now _ _ _ c.requires.acting_invariant c.if-code-at.false _ (rw c.in-Compute.is at c.decode.ensures)
       _ _ refl (omega arith) _ _ (rw c.compute.auto.output) (c.compute.ensures.implements _ _ _);
 }
 
@@ -98,14 +99,15 @@ returns-in-End c = record {
       rw c.leave.ensures.result
       (does-step _ _
       (turn-leaves _ _ _ _ a.idle c.if-code-at.false a.invariant
-      (actions-at c.args.code.now _ _ (rw c.in-End.is at c.decode.ensures) c.if-code-at.false)));
+      (actions-at c.args.program.code.now _ _ (rw c.in-End.is at c.decode.ensures) c.if-code-at.false)));
 }
 
 pub returns-in-Unknown : goal.returns-in-Unknown
 returns-in-Unknown c = record {
   simulates =
       let a = c.requires.acting_invariant in
-      does-step _ _
+      rw c.stopped-in-Unknown.ensures
+      (does-step _ _
       (turn-unknown _ _ _ _ a.idle _ a.invariant
-      (actions-at c.args.code.now _ _ (rw c.in-Unknown.is at c.decode.ensures) c.if-code-at.false) (stepped c.args.g) refl refl refl);
+      (actions-at c.args.program.code.now _ _ (rw c.in-Unknown.is at c.decode.ensures) c.if-code-at.false) (stepped c.args.g) refl refl refl));
 }

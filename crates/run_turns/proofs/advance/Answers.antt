@@ -15,7 +15,7 @@ write_items-written-requires c =
     let a = c.args in
     let begun = rw c.in-Onward.is at (c.enter-entered.ensures.simulates _ _ c.requires.invariant) in
     record {
-      allowance = a.allowance;
+      allowance = a.program.allowance;
       «record» = a.«record».now;
       acting = record { invariant = begun.below.simulates.invariant; idle = c.if-begun-ne0.false };
     }
@@ -24,7 +24,7 @@ pub try_use-used-requires : goal.try_use-used-requires
 try_use-used-requires c =
     let a = c.args in
     let begun = rw c.in-Onward.is at (c.enter-entered.ensures.simulates _ _ c.requires.invariant) in
-    let acting : ActingInvariant a.allowance _ _ = record { invariant = begun.below.simulates.invariant; idle = c.if-begun-ne0.false } in
+    let acting : ActingInvariant a.program.allowance _ _ = record { invariant = begun.below.simulates.invariant; idle = c.if-begun-ne0.false } in
     let written = c.write_items-written.ensures.simulates _ _ acting in
     let u = (acting-on _ _ written).invariant in
     record {
@@ -39,10 +39,10 @@ returns-in_default-used c = record {
   simulates =
       let a = c.args in
       let begun = rw c.in-Onward.is at (c.enter-entered.ensures.simulates _ _ c.requires.invariant) in
-      let acting : ActingInvariant a.allowance _ _ = record { invariant = begun.below.simulates.invariant; idle = c.if-begun-ne0.false } in
+      let acting : ActingInvariant a.program.allowance _ _ = record { invariant = begun.below.simulates.invariant; idle = c.if-begun-ne0.false } in
       let written = c.write_items-written.ensures.simulates _ _ acting in
       let used = c.try_use-used.ensures.simulates _ _ _ (acting-on _ _ written) in
-      turn-used _ _ begun written (over-left _ a.allowance c.try_use-used.result _ (over-other c.try_use-used.result c.in_default-used.not-Onward))
+      turn-used _ _ begun written (over-left _ a.program.allowance c.try_use-used.result _ (over-other c.try_use-used.result c.in_default-used.not-Onward))
       used;
 }
 
@@ -50,30 +50,32 @@ pub try_span-selected-requires : goal.try_span-selected-requires
 try_span-selected-requires c =
     let a = c.args in
     let begun = rw c.in-Onward.is at (c.enter-entered.ensures.simulates _ _ c.requires.invariant) in
-    let acting : ActingInvariant a.allowance _ _ = record { invariant = begun.below.simulates.invariant; idle = c.if-begun-ne0.false } in
+    let acting : ActingInvariant a.program.allowance _ _ = record { invariant = begun.below.simulates.invariant; idle = c.if-begun-ne0.false } in
     let written = c.write_items-written.ensures.simulates _ _ acting in
     let used = rw c.in-Onward-used.is at (c.try_use-used.ensures.simulates _ _ _ (acting-on _ _ written)) in
     let ready = acting-used _ _ (acting-on _ _ written) used in
     let u = ready.invariant in
     record { selection_within = u.ready.room.selection; frame_within = u.ready.room.frame; held = u.current }
 
-pub act-requires-clause-acting_invariant : goal.act-requires-clause-acting_invariant
-act-requires-clause-acting_invariant c =
-    let a = c.args in
-    let begun = rw c.in-Onward.is at (c.enter-entered.ensures.simulates _ _ c.requires.invariant) in
-    let acting : ActingInvariant a.allowance _ _ = record { invariant = begun.below.simulates.invariant; idle = c.if-begun-ne0.false } in
-    let written = c.write_items-written.ensures.simulates _ _ acting in
-    let used = rw c.in-Onward-used.is at (c.try_use-used.ensures.simulates _ _ _ (acting-on _ _ written)) in
-    let ready = acting-used _ _ (acting-on _ _ written) used in
-    let selected = c.try_span-selected.ensures.simulates _ _ _ _ ready in
-    acting-on _ _ selected
+pub act-requires : goal.act-requires
+act-requires c = record {
+  acting_invariant =
+      let a = c.args in
+      let begun = rw c.in-Onward.is at (c.enter-entered.ensures.simulates _ _ c.requires.invariant) in
+      let acting : ActingInvariant a.program.allowance _ _ = record { invariant = begun.below.simulates.invariant; idle = c.if-begun-ne0.false } in
+      let written = c.write_items-written.ensures.simulates _ _ acting in
+      let used = rw c.in-Onward-used.is at (c.try_use-used.ensures.simulates _ _ _ (acting-on _ _ written)) in
+      let ready = acting-used _ _ (acting-on _ _ written) used in
+      let selected = c.try_span-selected.ensures.simulates _ _ _ _ ready in
+      acting-on _ _ selected;
+}
 
 pub returns : goal.returns
 returns c = record {
   simulates =
       let a = c.args in
       let begun = rw c.in-Onward.is at (c.enter-entered.ensures.simulates _ _ c.requires.invariant) in
-      let acting : ActingInvariant a.allowance _ _ = record { invariant = begun.below.simulates.invariant; idle = c.if-begun-ne0.false } in
+      let acting : ActingInvariant a.program.allowance _ _ = record { invariant = begun.below.simulates.invariant; idle = c.if-begun-ne0.false } in
       let written = c.write_items-written.ensures.simulates _ _ acting in
       let used = rw c.in-Onward-used.is at (c.try_use-used.ensures.simulates _ _ _ (acting-on _ _ written)) in
       let ready = acting-used _ _ (acting-on _ _ written) used in

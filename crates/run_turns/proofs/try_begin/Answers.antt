@@ -13,7 +13,7 @@ pub returns-then-open_sequence : goal.returns-then-open_sequence
 returns-then-open_sequence c = record {
   simulates =
       let a = c.args in
-      let taken = rw c.in-Word.is at c.find_word.ensures in
+      let taken = rw c.in-Some.is at c.find_word.ensures in
       let opened = rw c.if-open_sequence.true at c.open_sequence.ensures.opens in
       λ allowance input output «record» values acting. rw (taken.after, opened.1)
       (tries-action _ _ _ (Onward (stepped a.g)) _ taken.numbered.within (found-means taken BeginSeq (rw (found_number taken))) refl

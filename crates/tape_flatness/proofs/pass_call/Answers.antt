@@ -9,7 +9,7 @@ returns-then-item_follows c =
     let far = c.name_end.ensures in (
       omega (arith, c.pass_argument-passed.ensures.0, far),
       call-followed _ _ c.requires.0 c.requires.1 _ passed_word.next passed_word.leftmost far c.pass_argument-passed.ensures.1
-          c.item_follows.ensures c.if-item_follows.true c.declared_call-call.ensures c.earlier-leftmost.ensures,
+          c.item_follows.ensures c.if-item_follows.true c.declared_call.ensures c.earlier-leftmost.ensures,
     )
 
 pub returns : goal.returns

@@ -30,7 +30,7 @@ loop-i-preserved-then-opens_call c =
       omega (arith, far, inv.1),
       λ p. inv.2 p
           ∙ inner-opens _ _ c.loop-i-test.true c.word_at-word.ensures.0 c.opens_call.ensures
-          c.if-opens_call.true far c.declared_call-call.ensures _ c.earlier-found.ensures _ p,
+          c.if-opens_call.true far c.declared_call.ensures _ c.earlier-found.ensures _ p,
     )
 
 pub loop-i-preserved : goal.loop-i-preserved

@@ -7,14 +7,12 @@ pub returns-then-word-eq-CLOSE_WORD : goal.returns-then-word-eq-CLOSE_WORD
 returns-then-word-eq-CLOSE_WORD c =
     let args = c.args in (
       omega arith,
-      λ h. short-ends args.tape.now args.end c.loop-k.k c.loop-k.invariant.1 (omega arith) c.word_inside-word.ensures.0
+      omega arith,
+      short-ends args.tape.now args.end c.loop-k.k c.loop-k.invariant (omega arith) c.word_inside-word.ensures.0
           c.if-word-eq-CLOSE_WORD.true,
     )
 
 pub loop-k-preserved : goal.loop-k-preserved
 loop-k-preserved c =
-    let args = c.args in (
-      omega arith,
-      short-goes args.tape.now args.end c.loop-k.k c.loop-k.invariant.1 (omega arith) c.word_inside-word.ensures.0
-          (omega arith),
-    )
+    let args = c.args in
+    short-goes args.tape.now args.end c.loop-k.k c.loop-k.invariant (omega arith) c.word_inside-word.ensures.0 (omega arith)

@@ -3,5 +3,5 @@ use Rattle.code_actions.proofs.Spanned.{small-as, piece-small}
 use borrow.Author.Rules.{rules}
 use Rattle.code_actions.proofs.words.write_left.Goals as goal
 
-pub put_span-selected-requires : goal.put_span-selected-requires
-put_span-selected-requires c = search (rules, small-as, piece-small)
+pub put_span-requires-2 : goal.put_span-requires-2
+put_span-requires-2 c = search (rules, small-as, piece-small)

@@ -1,5 +1,5 @@
 -- The facts about `tests::test_piece` that the check is told.
-use Rattle.code_patterns.proofs.Laws.Tested.{character-on, part-on, end_on}
+use Rattle.code_patterns.proofs.Laws.Tested.{character-on, part-on, tests-end}
 use Rattle.code_patterns.proofs.tests.test_piece.Goals as goal
 
 pub returns-in-Character : goal.returns-in-Character
@@ -9,4 +9,4 @@ pub returns-in-EVariable : goal.returns-in-EVariable
 returns-in-EVariable c = search part-on
 
 pub returns-in-PatternEnd : goal.returns-in-PatternEnd
-returns-in-PatternEnd c = search end_on
+returns-in-PatternEnd c = search tests-end

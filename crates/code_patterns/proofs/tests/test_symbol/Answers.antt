@@ -1,39 +1,16 @@
--- The facts about `tests::test_symbol` that the check is told: the name is on the tape, and what was found is as the laws say.
-use native.Mathlib.Omega.{arith}
-use Rattle.tape_words.specs.declared.tape.Piece.TheVariants.{SVariable}
-use Rattle.code_patterns.proofs.Laws.Scanning.{told}
-use Rattle.code_patterns.proofs.Laws.Tested.{Looked, new-symbol-on, equal-symbol-on}
+-- The facts about `tests::test_symbol` that the check is told.
+use mathlib.Core.Path.{refl, sym}
+use Rattle.code_patterns.proofs.Laws.Tested.{equal-on, new-on}
 use Rattle.code_patterns.proofs.tests.test_symbol.Goals as goal
 
-pub find-found-requires : goal.find-found-requires
-find-found-requires c =
-    let (named, room) = told c.args.tape.now c.args.t.next c.args.t.letters c.args.t.parts SVariable c.requires.parts_value in
-    omega (arith, c.name_size-size.ensures, named.fits)
-
-pub returns-then-found-eq0 : goal.returns-then-found-eq0
-returns-then-found-eq0 c =
+pub returns-in-Some : goal.returns-in-Some
+returns-in-Some c =
     let a = c.args in
-    let looked : Looked a.tape.now a.lengths a.names.now a.sites.now a.t c.site_of-site.result c.name_size-size.result c.find-found.result =
-    record {
-      within = c.requires.in_tests.0;
-      near = c.requires.in_tests.1;
-      is = c.requires.parts_value;
-      sited = c.site_of-site.ensures;
-      long = c.name_size-size.ensures;
-      found = c.find-found.ensures.0;
-    } in
-    search (new-symbol-on looked)
+    equal-on a.tape.now a.lengths a.symbols.now a.t _ c.requires.in_tests.0 (sym c.requires.parts_value) c.in-Some.first c.site_of-site.result
+    refl c.name_at-name.ensures c.in-Some.ensures c.site_of-site.ensures c.compare_word.ensures.0 c.put.ensures c.past_letter.ensures
 
 pub returns : goal.returns
 returns c =
     let a = c.args in
-    let looked : Looked a.tape.now a.lengths a.names.now a.sites.now a.t c.site_of-site.result c.name_size-size.result c.find-found.result =
-    record {
-      within = c.requires.in_tests.0;
-      near = c.requires.in_tests.1;
-      is = c.requires.parts_value;
-      sited = c.site_of-site.ensures;
-      long = c.name_size-size.ensures;
-      found = c.find-found.ensures.0;
-    } in
-    search (equal-symbol-on looked)
+    new-on a.tape.now a.lengths a.symbols.now a.t _ c.requires.in_tests.0 (sym c.requires.parts_value) c.site_of-site.result
+    refl c.name_at-name.ensures c.in_default.ensures c.site_of-site.ensures c.past_letter-2.ensures

@@ -4,7 +4,7 @@ use Rattle.code_table.proofs.functions.write_functions.Goals as goal
 
 pub loop-k-preserved : goal.loop-k-preserved
 loop-k-preserved c =
-    functions-go-on c.loop-k.invariant c.loop-k-test.true c.lesser-entry.ensures c.write_entry-at.ensures
+    functions-go-on c.loop-k.invariant c.loop-k-test.true c.min-entry.ensures c.write_entry-at.ensures
     (search)
 
 pub returns : goal.returns

@@ -3,4 +3,4 @@ use Rattle.engine.proofs.Runs.{profiles}
 use Rattle.engine.proofs.profile.refal0_profile.Goals as goal
 
 pub returns : goal.returns
-returns c = profiles c.run-ran.ensures.leaves c.ending_number.ensures
+returns c = profiles c.run-ran.ensures.leaves c.from.ensures

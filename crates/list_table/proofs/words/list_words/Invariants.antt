@@ -1,11 +1,6 @@
--- The loop invariants and measures of `words::list_words`. To write the rest of the words from here is to write the whole from the start.
-use Prim.Native.Nat.{◌-◌}
-use lib.ListN.{take}
+-- What the loop of `words::list_words` keeps: to write the rest of the words from here is to write the whole from the start.
 use Rattle.list_table.proofs.Stepping.{Lists}
 use Rattle.list_table.proofs.words.list_words.Given as goal
 
-abbrev pub invariant-loop-i : goal.invariant-loop-i
-invariant-loop-i l = Lists l.initial.out (take l.words l.tape) l.out l.i l.at l.state
-
-abbrev pub decreases-loop-i : goal.decreases-loop-i
-decreases-loop-i l = l.words - l.i
+abbrev pub invariant-loop-word : goal.invariant-loop-word
+invariant-loop-word l = Lists l.initial.writer l.words l.writer l.word-index l.state

@@ -15,4 +15,4 @@ loop-byte-init c = spelling-starts _ _ _ _ c.requires.0
 
 pub loop-byte-preserved-in-Given : goal.loop-byte-preserved-in-Given
 loop-byte-preserved-in-Given c =
-    (turned (goal.at.loop-byte-preserved-in-Given c).After-next_character c.in-Given.is).3 (omega arith) _ c.put.ensures
+    (turned (goal.at.loop-byte-preserved-in-Given c).After-next_character c.in-Given.is).3 (omega arith) _ cc

@@ -19,7 +19,7 @@ decreases-expression l = remaining l.text.now l.start l.depth
 
 abbrev pub invariant-expression-loop-next : goal.invariant-expression-loop-next
 invariant-expression-loop-next l =
-    Expressed l.text l.table l.symbols l.parts l.depth l.initial.s l.initial.tape l.tape l.s
+    Expressed l.text l.v l.depth l.initial.s l.initial.tape l.tape l.s
 
 abbrev pub decreases-expression-loop-next : goal.decreases-expression-loop-next
 decreases-expression-loop-next l = length l.text - l.s.at

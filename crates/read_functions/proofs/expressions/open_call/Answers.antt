@@ -1,10 +1,9 @@
 -- The facts about `expressions::open_call` that the check is told.
 use native.Mathlib.Omega.{arith}
-use mathlib.Core.Path.{ap}
-use mathlib.Core.Bool.{not}
+use mathlib.Core.Path.{sym}
+use Rattle.std.proofs.lemmas.Result.{err_from_is_err_and}
 use Rattle.meaning.specs.Tokens as Tokens
 use Rattle.read_tokens.proofs.Stream.{comes}
-use Rattle.read_bookkeeping.proofs.Choosing.{no-fault-here, a-fault-here}
 use Rattle.read_functions.proofs.Opened.{CallComes, CallName, CallNamed, call-nameless, named_here}
 use Rattle.read_functions.proofs.Opened.{call-misnamed, name-room, call_opens}
 use Rattle.read_functions.proofs.expressions.open_call.Goals.{After-lex-t}
@@ -27,32 +26,29 @@ pub returns-in_default : goal.returns-in_default
 returns-in_default c =
     call-nameless (call-here (goal.at.returns-in_default c).After-lex-t) c.in_default.not-Name c.refuse.ensures
 
-pub called_fault-fault-requires : goal.called_fault-fault-requires
-called_fault-fault-requires c =
-    let call = call-here (goal.at.called_fault-fault-requires c).After-lex-t in
+pub check_called-requires : goal.check_called-requires
+check_called-requires c =
+    let call = call-here (goal.at.check_called-requires c).After-lex-t in
     let name : CallName call c.in-Name.name = record { is = c.in-Name.is } in
     (named_here name).inside
 
-pub returns-then-not-is_accepted : goal.returns-then-not-is_accepted
-returns-then-not-is_accepted c =
-    let call = call-here (goal.at.returns-then-not-is_accepted c).After-lex-t in
+pub returns-in_err-check_called : goal.returns-in_err-check_called
+returns-in_err-check_called c =
+    let call = call-here (goal.at.returns-in_err-check_called c).After-lex-t in
     let name : CallName call c.in-Name.name = record { is = c.in-Name.is } in
-    let f = c.called_fault-fault.ensures in
-    rw c.fault_at-then-not-is_accepted.ensures
-    (call-misnamed name f (a-fault-here f c.is_accepted.ensures (ap not c.if-not-is_accepted.true)))
+    let p = err_from_is_err_and c.from_residual.result c.from_residual.ensures.1 in
+    rw (p.1, p.2) (call-misnamed name c.in_err-check_called.ensures.number c.in_err-check_called.ensures.place)
 
 pub put_call-words-requires : goal.put_call-words-requires
 put_call-words-requires c =
     let call = call-here (goal.at.put_call-words-requires c).After-lex-t in
     let name : CallName call c.in-Name.name = record { is = c.in-Name.is } in
-    let sound : CallNamed name =
-    record { sound = no-fault-here c.called_fault-fault.ensures c.is_accepted.ensures (ap not c.if-not-is_accepted.false) } in
+    let sound : CallNamed name = record { sound = sym c.in_ok-check_called.ensures.number } in
     name-room sound
 
 pub returns : goal.returns
 returns c =
     let call = call-here (goal.at.returns c).After-lex-t in
     let name : CallName call c.in-Name.name = record { is = c.in-Name.is } in
-    let sound : CallNamed name =
-    record { sound = no-fault-here c.called_fault-fault.ensures c.is_accepted.ensures (ap not c.if-not-is_accepted.false) } in
+    let sound : CallNamed name = record { sound = sym c.in_ok-check_called.ensures.number } in
     call_opens sound c.put_call-words.ensures

@@ -1,42 +1,33 @@
 -- The facts about `functions::declaration` that the check is told.
-use mathlib.Core.Path.{◌≡◌, sym, ◌∙◌}
-use mathlib.Core.Bool.{false}
+use mathlib.Core.Path.{sym, ◌∙◌}
+use Rattle.std.proofs.lemmas.Result.{err_from_is_err_and}
 use Rattle.meaning.specs.Tokens.{outside}
 use Rattle.read_tokens.proofs.Stream.{comes}
-use Rattle.read_functions.specs.Functions.{is_end_token}
-use Rattle.read_functions.proofs.Functioned.{StageAt, place_inside, stage-ends, stage-opening, stage-stops}
-use Rattle.read_functions.proofs.Functioned.{stage-goes}
-use Rattle.read_functions.proofs.functions.declaration.Goals.{After-lex-t, Else-is_end_token}
+use Rattle.read_functions.proofs.Functioned.{TallyAt, place_inside, text-ends, next-opening, next-stops, next-goes}
+use Rattle.read_functions.proofs.functions.declaration.Goals.{After-lex-t}
 use Rattle.read_functions.proofs.functions.declaration.Goals as goal
 
--- a token comes where more may
+-- a token comes
 token-here : (c : After-lex-t)
     → let a = c.args in
-    StageAt a.text.now a.tape.now a.heads.now a.at a.stage c.in-Onward.n c.lex-t.result
-token-here c =
-    let u = c.requires in
-    let e = c.in-Onward.is in
-    record { underway = u; onward = e; comes = comes _ outside _ _ (place_inside u e) c.lex-t.ensures }
-
--- it is not the end
-more-here : (c : Else-is_end_token) → is_end_token c.lex-t.result.token ≡ false
-more-here c = sym c.is_end_token.ensures ∙ c.if-is_end_token.false
+    TallyAt a.text.now a.tape.now a.heads.now a.at a.n c.lex-t.result
+token-here c = record { underway = c.requires; comes = comes _ outside _ _ (place_inside c.requires) c.lex-t.ensures }
 
 pub returns-then-is_end_token : goal.returns-then-is_end_token
 returns-then-is_end_token c =
-    stage-ends (token-here (goal.at.returns-then-is_end_token c).After-lex-t) (sym c.is_end_token.ensures ∙ c.if-is_end_token.true)
+    text-ends (token-here (goal.at.returns-then-is_end_token c).After-lex-t) (sym c.is_end_token.ensures ∙ c.if-is_end_token.true)
 
 pub function-requires : goal.function-requires
 function-requires c =
-    stage-opening (token-here (goal.at.function-requires c).After-lex-t) (more-here (goal.at.function-requires c).Else-is_end_token)
+    next-opening (token-here (goal.at.function-requires c).After-lex-t) (sym c.is_end_token.ensures ∙ c.if-is_end_token.false)
 
-pub returns-in-Stopped : goal.returns-in-Stopped
-returns-in-Stopped c =
-    stage-stops (token-here (goal.at.returns-in-Stopped c).After-lex-t) (more-here (goal.at.returns-in-Stopped c).Else-is_end_token)
-    c.function.ensures c.in-Stopped.is
+pub returns-in_err-f : goal.returns-in_err-f
+returns-in_err-f c =
+    let p = err_from_is_err_and c.from_residual.result c.from_residual.ensures.1 in
+    rw (p.1, p.2) (next-stops (token-here (goal.at.returns-in_err-f c).After-lex-t) (sym c.is_end_token.ensures ∙ c.if-is_end_token.false)
+    c.in_err-f.ensures)
 
-pub returns-in-Done : goal.returns-in-Done
-returns-in-Done c =
-    stage-goes (token-here (goal.at.returns-in-Done c).After-lex-t) (more-here (goal.at.returns-in-Done c).Else-is_end_token)
-    c.function.ensures c.in-Done.is
-    c.pass_spare-past.ensures
+pub returns : goal.returns
+returns c =
+    next-goes (token-here (goal.at.returns c).After-lex-t) (sym c.is_end_token.ensures ∙ c.if-is_end_token.false)
+    c.in_ok-f.ensures c.pass_spare-past.ensures

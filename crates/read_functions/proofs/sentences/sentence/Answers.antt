@@ -1,26 +1,24 @@
 -- The facts about `sentences::sentence` that the check is told.
-use Rattle.read_functions.proofs.Sentenced.{AfterPattern, AfterConditions, pattern-stops, pattern-done}
+use Rattle.std.proofs.lemmas.Result.{err_from_is_err_and}
+use Rattle.read_functions.proofs.Sentenced.{AfterPattern, AfterConditions, pattern-stops, pattern-done, pattern-ready, pattern-variables}
 use Rattle.read_functions.proofs.Sentenced.{conditions-stop, conditions-done, sentence-reads}
-use Rattle.read_functions.proofs.sentences.sentence.Goals.{In-Done, In-Done-conditions}
 use Rattle.read_functions.proofs.sentences.sentence.Goals as goal
 
-pattern-here : (c : In-Done)
-    → let a = c.args in
-    AfterPattern a.text.now a.from a.words a.tape.now c.pattern.new.table c.pattern.new.tape c.in-Done.p
-pattern-here c =
-    pattern-done c.pattern.ensures c.requires c.in-Done.is
+pub returns-in_err-p : goal.returns-in_err-p
+returns-in_err-p c =
+    let p = err_from_is_err_and c.from_residual.result c.from_residual.ensures.1 in
+    rw (p.1, p.2) (pattern-stops c.in_err-p.ensures)
 
-conditions-here : (c : In-Done-conditions)
-    → AfterConditions (pattern-done c.pattern.ensures c.requires c.in-Done.is) c.conditions.new.tape c.in-Done-conditions.c
-conditions-here c = conditions-done (pattern-done c.pattern.ensures c.requires c.in-Done.is)
-    c.conditions.ensures c.in-Done-conditions.is
+pub conditions-requires : goal.conditions-requires
+conditions-requires c =
+    let k = pattern-done c.in_ok-p.ensures c.requires in
+    (pattern-ready k, pattern-variables k)
 
-pub returns-in-Stopped : goal.returns-in-Stopped
-returns-in-Stopped c = pattern-stops c.pattern.ensures c.in-Stopped.is
-
-pub returns-in-Stopped-conditions : goal.returns-in-Stopped-conditions
-returns-in-Stopped-conditions c =
-    conditions-stop (pattern-here (goal.at.returns-in-Stopped-conditions c).In-Done) c.conditions.ensures c.in-Stopped-conditions.is
+pub returns-in_err-c : goal.returns-in_err-c
+returns-in_err-c c =
+    let p = err_from_is_err_and c.from_residual-in_err-c.result c.from_residual-in_err-c.ensures.1 in
+    rw (p.1, p.2) (conditions-stop (pattern-done c.in_ok-p.ensures c.requires) c.in_err-c.ensures)
 
 pub returns : goal.returns
-returns c = sentence-reads (conditions-here (goal.at.returns c).In-Done-conditions) c.sentence_end.ensures
+returns c =
+    sentence-reads (conditions-done (pattern-done c.in_ok-p.ensures c.requires) c.in_ok-c.ensures) c.sentence_end.ensures

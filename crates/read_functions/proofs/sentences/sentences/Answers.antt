@@ -1,28 +1,30 @@
 -- The facts about `sentences::sentences` that the check is told.
-use Rattle.read_functions.proofs.Sentencing.{sentences-start, sentence-stops, one_more_lem, Sequelled}
+use mathlib.Core.Path.{◌∙◌, ap}
+use Rattle.std.specs.Prelude.{Ok}
+use Rattle.std.proofs.lemmas.Result.{err_from_is_err_and}
+use Rattle.read_functions.proofs.Sentencing.{sentences-start, sentence-stops, one_more_lem}
 use Rattle.read_functions.proofs.Sentencing.{sequel-refused, sequel-ends, sequel-goes}
-use Rattle.read_functions.proofs.sentences.sentences.Goals.{After-after_sentence}
 use Rattle.read_functions.proofs.sentences.sentences.Goals as goal
 
--- what comes after a sentence that was read after those before it
-sequel-here : (c : After-after_sentence) → Sequelled (one_more_lem c.loop-fault.invariant c.in-Done.is c.next_sentence.ensures)
-    c.after_sentence.result
-sequel-here c = record { follows = c.after_sentence.ensures }
+pub loop-s-init : goal.loop-s-init
+loop-s-init c = sentences-start _ _ _ _ _ c.requires
 
-pub loop-fault-init : goal.loop-fault-init
-loop-fault-init c = sentences-start _ _ _ _ _ c.requires
+pub returns-in_err-s : goal.returns-in_err-s
+returns-in_err-s c =
+    let p = err_from_is_err_and c.from_residual.result c.from_residual.ensures.1 in
+    rw (p.1, p.2) (sentence-stops c.loop-s.invariant c.in_err-s.ensures)
 
-pub returns-in-Stopped : goal.returns-in-Stopped
-returns-in-Stopped c =
-    sentence-stops c.loop-fault.invariant c.next_sentence.ensures c.in-Stopped.is
+pub returns-in_err-past : goal.returns-in_err-past
+returns-in_err-past c =
+    let p = err_from_is_err_and c.from_residual-in_err-past.result c.from_residual-in_err-past.ensures.1 in
+    rw (p.1, p.2) (sequel-refused (one_more_lem c.loop-s.invariant c.in_ok-s.ensures) c.in_err-past.ensures)
 
 pub returns-in-Ends : goal.returns-in-Ends
-returns-in-Ends c = sequel-ends (sequel-here (goal.at.returns-in-Ends c).After-after_sentence)
-    c.in-Ends.is c.put.ensures
+returns-in-Ends c =
+    let e = c.in_ok-past.was ∙ ap Ok c.in-Ends.is in
+    sequel-ends (one_more_lem c.loop-s.invariant c.in_ok-s.ensures) (rw e at c.after_sentence.ensures) c.put.ensures
 
-pub loop-fault-preserved : goal.loop-fault-preserved
-loop-fault-preserved c = sequel-goes (sequel-here (goal.at.loop-fault-preserved c).After-after_sentence)
-    c.in-Another.is c.put-in-Another.ensures
-
-pub returns-in-Refused : goal.returns-in-Refused
-returns-in-Refused c = sequel-refused (sequel-here (goal.at.returns-in-Refused c).After-after_sentence) c.in-Refused.is
+pub loop-s-preserved : goal.loop-s-preserved
+loop-s-preserved c =
+    let e = c.in_ok-past.was ∙ ap Ok c.in-Another.is in
+    sequel-goes (one_more_lem c.loop-s.invariant c.in_ok-s.ensures) (rw e at c.after_sentence.ensures) c.put-in-Another.ensures

@@ -1,12 +1,7 @@
--- The loop invariants and measures of `calls::unknown_call`. The search from the start is that from here.
-use Prim.Native.Nat.{◌-◌}
-use lib.ListN.{length, take}
+-- The loop invariant of `calls::unknown_call`. The search from the start is that from here.
 use Rattle.tape_words.specs.Words.{head_names}
 use Rattle.read_table.proofs.Called.{Searching}
 use Rattle.read_table.proofs.calls.unknown_call.Given as goal
 
 abbrev pub invariant-loop-i : goal.invariant-loop-i
-invariant-loop-i l = Searching (head_names l.tape (take l.functions l.heads)) l.tape l.i
-
-abbrev pub decreases-loop-i : goal.decreases-loop-i
-decreases-loop-i l = length l.tape - l.i
+invariant-loop-i l = Searching (head_names l.tape l.heads) l.tape l.i

@@ -1,33 +1,42 @@
--- The facts about `functions::functions` that the check is told: how reading stands at the start, and that it stands so after each declaration.
-use mathlib.Core.Path.{ap, subst}
-use mathlib.Core.List.{List}
+-- The facts about `functions::functions` that the check is told: how reading stands at the start, that fewer declarations may come after each one,
+-- and what it comes to.
 use Prim.Native.Nat.{ℕ}
+use mathlib.Core.Path.{◌≡◌, ◌∙◌, ap}
+use mathlib.Core.List.{List}
+use native.Mathlib.Omega.{arith}
+use Rattle.std.specs.Prelude.{Option, Result, Ok}
+use Rattle.answers.specs.declared.Fault.{Fault}
 use Rattle.read_tokens.specs.declared.reader.Reader.{Reader}
-use Rattle.read_functions.specs.Functions.{StageIs}
+use Rattle.read_functions.specs.declared.functions.Tally.{Tally}
+use Rattle.read_functions.specs.Functions.{TallyIs, DeclaresFrom}
 use Rattle.read_functions.proofs.Functioned.{functions-start}
+use Rattle.read_table.specs.Through.{reached_at, GoesOn}
 use Rattle.read_table.proofs.functions.functions.Goals as goal
 
-pub loop-reader-init : goal.loop-reader-init
-loop-reader-init c = record {
+-- what a declaration came to, read in this text
+turned : {text start tape heads tape' heads' : List ℕ} {reader reader' : Reader} {n : Tally} {r r' : Result (Option Tally) Fault}
+    → GoesOn reader tape heads n reader' tape' heads' r
+    → reader.text.now ≡ text
+    → TallyIs text start tape heads reader.at n
+    → r ≡ r'
+    → DeclaresFrom text start tape heads n tape' heads' (reached_at reader'.at r')
+turned {start = start} g same stands e = rw same at (rw e at (g.declares.keeps start (rw same stands)))
+
+pub loop-next-init : goal.loop-next-init
+loop-next-init c = record {
   same = ap (λ (r : Reader). r.text.now) c.new-reader.ensures;
   stands =
-      rw (c.new-reader.ensures, c.first_stage-stage.ensures)
+      rw (c.new-reader.ensures, c.new-n.ensures)
       (functions-start c.args.text.now c.args.tape.now c.args.heads.now c.requires.0 c.requires.1 c.requires.2);
 }
 
-pub next_declaration-stage-requires : goal.next_declaration-stage-requires
-next_declaration-stage-requires c =
-    record { start = c.args.tape.now; is = rw c.loop-reader.invariant.same c.loop-reader.invariant.stands }
+pub loop-next-smaller : goal.loop-next-smaller
+loop-next-smaller c =
+    let e = c.in_ok-next.was ∙ ap Ok c.in-Some.is in
+    let counts = rw e at c.next_declaration.ensures.declares.counts in
+    let stands = turned c.next_declaration.ensures c.loop-next.invariant.same c.loop-next.invariant.stands e in
+    omega (arith, counts, stands.few)
 
-pub loop-reader-preserved : goal.loop-reader-preserved
-loop-reader-preserved c =
-    let l = c.loop-reader in
-    let next = c.next_declaration-stage in
-    let same = l.invariant.same in
-    let before : StageIs l.reader.text.now c.args.tape.now l.tape l.heads l.reader.at l.stage = rw same l.invariant.stands in
-    record {
-      same = rw next.ensures.same same;
-      stands =
-          subst (λ (text : List ℕ). StageIs text c.args.tape.now next.new.tape next.new.heads next.new.reader.at next.result) same
-          (next.ensures.declares.keeps c.args.tape.now before);
-    }
+pub returns : goal.returns
+returns c =
+    turned c.next_declaration.ensures c.loop-next.invariant.same c.loop-next.invariant.stands (c.in_ok-next.was ∙ ap Ok c.in_default.is)

@@ -1,15 +1,16 @@
 -- The loop invariant and the measure of `functions::functions`. The reader goes on in the same text, and reading
--- stands at its place as it stands after
--- the stage; fewer declarations may come after each turn.
+-- stands at its place as the tally says; fewer declarations may come after each turn.
+use Prim.Native.Nat.{◌-◌}
 use mathlib.Core.Path.{◌≡◌}
-use Rattle.read_functions.specs.Functions.{StageIs, to_come}
+use Rattle.meaning.specs.Allowed.{max_functions}
+use Rattle.read_functions.specs.Functions.{TallyIs}
 use Rattle.read_table.proofs.functions.functions.Given as goal
 
-abbrev pub invariant-loop-reader : goal.invariant-loop-reader
-invariant-loop-reader l = record {
+abbrev pub invariant-loop-next : goal.invariant-loop-next
+invariant-loop-next l = record {
   same : l.reader.text.now ≡ l.text;
-  stands : StageIs l.text l.initial.tape l.tape l.heads l.reader.at l.stage;
+  stands : TallyIs l.text l.initial.tape l.tape l.heads l.reader.at l.n;
 }
 
-abbrev pub decreases-loop-reader : goal.decreases-loop-reader
-decreases-loop-reader l = to_come l.stage
+abbrev pub decreases-loop-next : goal.decreases-loop-next
+decreases-loop-next l = max_functions - l.n.functions

@@ -1,20 +1,18 @@
--- The fact about `emitting::copy_name` that the check is told: one byte more is pasted over.
+-- The facts about `emitting::copy_name` that the check is told: a word of a name is a byte, and one more is pasted over.
 use native.Mathlib.Omega.{arith}
-use lib.ListN.{take, drop, length-set}
+use lib.ListN.{length-set}
 use Rattle.run_cells.proofs.Laws.Copying.{pasted-one}
-use Rattle.run_actions.proofs.Laws.Naming.{spelled-long, spelled-byte}
+use Rattle.run_actions.proofs.Laws.Naming.{every-at}
 use Rattle.run_actions.proofs.emitting.copy_name.Goals as goal
+
+pub overflow_cast-emissions : goal.overflow_cast-emissions
+overflow_cast-emissions c = omega (arith, every-at c.args.name.now c.loop-i.i c.requires.bytes c.loop-i-test.true)
 
 pub loop-i-preserved : goal.loop-i-preserved
 loop-i-preserved c =
     let a = c.args in
-    let l = c.loop-i in
-    let s = l.invariant.3 in
-    let long = spelled-long a.code.now a.name.0 a.size s in (
-      rw (spelled-byte a.code.now a.name.0 a.size l.i s c.loop-i-test.true)
-          (pasted-one l.«record» a.«record».now (take a.size (drop a.name.0 a.code.now)) a.to.0 l.i
-          l.invariant.0 (rw long c.requires.size_in_bounds) (rw long c.loop-i-test.true)),
-      omega arith,
-      rw length-set l.invariant.2,
-      s,
+    let l = c.loop-i in (
+      pasted-one l.emissions a.emissions.now a.name.now a.to.0 l.i l.invariant.0 c.requires.name_in_bounds
+          c.loop-i-test.true,
+      rw length-set l.invariant.1,
     )

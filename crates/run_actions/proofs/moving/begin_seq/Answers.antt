@@ -9,7 +9,7 @@ returns-then-not-open_sequence c = record {
       let a = c.args in
       let p = c.requires in
       let full = rw c.if-not-open_sequence.true at c.open_sequence.ensures.opens in
-      λ input output «record» values r≤out. rw full.1
+      λ input output «record» values r≤out. rw (c.stopped.ensures, full.1)
       (begin-many a.g (memory input output «record» a.frames.now values) p.frame_within.frame_room
       p.held.opened full.0);
 }

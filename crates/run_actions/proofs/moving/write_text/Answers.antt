@@ -5,6 +5,6 @@ use Rattle.run_actions.proofs.moving.write_text.Goals as goal
 pub returns : goal.returns
 returns c = record {
   implements =
-      λ action input «record» values frames w. rw (c.out_after-end.ensures, c.copy_to_out.ensures)
-      (text-written _ _ c.requires.r_in_bounds w c.requires.p_le_q (rw c.room_from.ensures at c.if-room_from-text.false));
+      λ action input «record» values frames w. rw (c.after-end.ensures, c.copy_to.ensures)
+      (text-written _ _ c.requires.r_in_bounds w c.requires.p_le_q (rw c.room.ensures at c.if-room-text.false));
 }

@@ -7,11 +7,11 @@ pub returns-then-stored_values-index : goal.returns-then-stored_values-index
 returns-then-stored_values-index c = record {
   implements =
       let a = c.args in
-      λ input «record». value_none _ _ a.index (rw c.stored_values.ensures.result at c.if-stored_values-index.true);
+      λ input «record». rw c.stopped.ensures (value_none _ _ a.index (rw c.stored_values.ensures.result at c.if-stored_values-index.true));
 }
 
-pub bounds-values-frame : goal.bounds-values-frame
-bounds-values-frame c =
+pub bounds-values-g : goal.bounds-values-g
+bounds-values-g c =
     let p = c.requires in
     omega (arith, p.paired c.args.g.frame p.frame_within.frame_room, p.held.stored, c.stored_values.ensures.result, c.if-stored_values-index.false)
 

@@ -4,4 +4,4 @@ use Rattle.run_cells.proofs.copying.copy_few.Goals as goal
 
 pub returns : goal.returns
 returns c =
-    pasted-few _ _ _ c.requires.from_in_bounds c.copy_four-i.ensures c.copy_two-i.ensures c.copy_one.ensures
+    pasted-few _ _ _ c.requires.from_in_bounds c.copy_part-i.ensures c.copy_part-i-2.ensures c.copy_part.ensures

@@ -6,11 +6,11 @@ use Rattle.run_cells.proofs.moving.move_few.Goals as goal
 pub returns-clause-input_after : goal.returns-clause-input_after
 returns-clause-input_after c =
     let four =
-    part_moved (none-moved c.requires) c.move_four-four.ensures c.move_four-four.auto.input
-    (ap (λ cell. cell.0) c.cell_before-p.ensures) (ap (λ cell. cell.0) c.out_before-r.ensures) in
+    part_moved (none-moved c.requires) c.move_part-four.ensures c.move_part-four.auto.input
+    (ap (λ cell. cell.0) c.before-p.ensures) (ap (λ cell. cell.0) c.before-r.ensures) in
     let two =
-    part_moved four c.move_two-two.ensures c.move_two-two.auto.input
-    (ap (λ cell. cell.0) c.cell_before-p-2.ensures) (ap (λ cell. cell.0) c.out_before-r-2.ensures) in
+    part_moved four c.move_part-two.ensures c.move_part-two.auto.input
+    (ap (λ cell. cell.0) c.before-p-2.ensures) (ap (λ cell. cell.0) c.before-r-2.ensures) in
     let one =
-    part_moved two c.move_one-one.ensures c.move_one-one.auto.input (ap (λ cell. cell.0) c.cell_before.ensures) refl in
+    part_moved two c.move_part-one.ensures c.move_part-one.auto.input (ap (λ cell. cell.0) c.before-2.ensures) refl in
     (all_moved one).1

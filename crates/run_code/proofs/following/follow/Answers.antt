@@ -9,12 +9,14 @@ pub loop-status-init : goal.loop-status-init
 loop-status-init c =
     rw (rejoined c.args.first c.status_of-status.result c.registers_of-g.result c.registers_of-g.ensures.result
     c.status_of-status.ensures.result)
-    (simulates-start c.args.code.now c.args.allowance c.args.first _ c.requires.next_invariant)
+    (simulates-start c.args.program.code.now c.args.program.allowance c.args.first _ c.requires.next_invariant)
 
-pub step-status-requires-clause-invariant : goal.step-status-requires-clause-invariant
-step-status-requires-clause-invariant c =
-    let l = c.loop-status in
-    rw (goes-onward l.status l.g (sym c.is_onward.ensures.result ∙ c.loop-status-test.true)) at l.invariant.invariant
+pub step-status-requires : goal.step-status-requires
+step-status-requires c = record {
+  invariant =
+      let l = c.loop-status in
+      rw (goes-onward l.status l.g (sym c.is_onward.ensures.result ∙ c.loop-status-test.true)) at l.invariant.invariant;
+}
 
 pub loop-status-preserved : goal.loop-status-preserved
 loop-status-preserved c =

@@ -10,9 +10,9 @@ use Rattle.run_code.proofs.following.follow.Given as goal
 abbrev pub invariant-loop-status : goal.invariant-loop-status
 invariant-loop-status l =
     let m = memory l.initial.input l.initial.output l.initial.«record» l.initial.frames l.initial.values in
-    Simulates l.code l.allowance (outcome_from (memory_room m) l.allowance l.code l.fn.first m) (registers_in l.fn.first) m
+    Simulates l.program.code.now l.program.allowance (outcome_from (memory_room m) l.program.allowance l.program.code.now l.fn.first m) (registers_in l.fn.first) m
     (next_of l.status l.g) (memory l.input l.output l.«record» l.frames l.values)
 
 abbrev pub decreases-loop-status : goal.decreases-loop-status
 decreases-loop-status l =
-    measure (length l.code) l.allowance (next_of l.status l.g) (memory l.input l.output l.«record» l.frames l.values)
+    measure (length l.program.code.now) l.program.allowance (next_of l.status l.g) (memory l.input l.output l.«record» l.frames l.values)

@@ -49,8 +49,8 @@ pub follow_all-last-requires-clause-next_invariant : goal.follow_all-last-requir
 follow_all-last-requires-clause-next_invariant c =
     let a = c.args in
     let p = c.requires in
-    let on_in : Loaded a.text.now a.input.now c.copy_to_in.new.input =
-    record { fits = p.text_in_bounds; pasted = rw c.loaded-g.ensures.result at c.copy_to_in.ensures; sized = c.copy_to_in.auto.input } in
+    let on_in : Loaded a.text.now a.input.now c.copy_to.new.cells =
+    record { fits = p.text_in_bounds; pasted = rw c.loaded-g.ensures.result at c.copy_to.ensures; sized = c.copy_to.auto.cells } in
     rw c.loaded-g.ensures.result
     (begins _ _ _ on_in _ _ _ _ _ a.code.now a.start a.allowance p.frames_len p.values_len p.frames_value
     c.begin_frame.ensures.leaves c.begin_frame.auto.frames)
@@ -59,8 +59,8 @@ pub reported-ran-requires : goal.reported-ran-requires
 reported-ran-requires c =
     let a = c.args in
     let p = c.requires in
-    let on_in : Loaded a.text.now a.input.now c.copy_to_in.new.input =
-    record { fits = p.text_in_bounds; pasted = rw c.loaded-g.ensures.result at c.copy_to_in.ensures; sized = c.copy_to_in.auto.input } in
+    let on_in : Loaded a.text.now a.input.now c.copy_to.new.cells =
+    record { fits = p.text_in_bounds; pasted = rw c.loaded-g.ensures.result at c.copy_to.ensures; sized = c.copy_to.auto.cells } in
     let left = c.follow_all-last.new in
     let n = memory left.input left.output left.«record» left.frames left.values in
     let followed = rw c.loaded-g.ensures.result at c.follow_all-last.ensures.simulates in
@@ -75,8 +75,8 @@ returns c = record {
   leaves =
       let a = c.args in
       let p = c.requires in
-      let on_in : Loaded a.text.now a.input.now c.copy_to_in.new.input =
-      record { fits = p.text_in_bounds; pasted = rw c.loaded-g.ensures.result at c.copy_to_in.ensures; sized = c.copy_to_in.auto.input } in
+      let on_in : Loaded a.text.now a.input.now c.copy_to.new.cells =
+      record { fits = p.text_in_bounds; pasted = rw c.loaded-g.ensures.result at c.copy_to.ensures; sized = c.copy_to.auto.cells } in
       let left = c.follow_all-last.new in
       let n = memory left.input left.output left.«record» left.frames left.values in
       let followed = rw c.loaded-g.ensures.result at c.follow_all-last.ensures.simulates in

@@ -1,23 +1,20 @@
 -- The facts about `names::starts_with` that the check is told.
-use native.Mathlib.Omega.{arith}
-use mathlib.Core.Path.{sym}
-use lib.ListN.{take, drop}
+use Rattle.std.proofs.Common.{rules, sym, ◌∙◌}
+use Rattle.std.proofs.lemmas.Iterator.{cases_from_all, YieldsList-from_slice, YieldsList-from_zip}
 use Rattle.meaning.proofs.Laws.Beginnings.{starts-short}
-use Rattle.tape_words.proofs.Laws.Lists.{part_length}
-use Rattle.tape_words.proofs.Laws.Names.{starts-again, starts-otherwise, starts-end}
+use borrow.Author.Tests.{lt-leb}
+use Rattle.tape_words.proofs.Laws.Lists.{tests}
+use Rattle.tape_words.proofs.Laws.Spelling.{Same, Differs, begins-by}
 use Rattle.tape_words.proofs.names.starts_with.Goals as goal
 
-pub returns-then-size-prefix : goal.returns-then-size-prefix
-returns-then-size-prefix c =
-    let a = c.args in
-    sym (starts-short a.prefix.now (take a.size (drop a.from a.tape.now))
-    (omega (arith, part_length a.size a.from a.tape.now c.requires)))
+pub returns-then-prefix-name-clause-value : goal.returns-then-prefix-name-clause-value
+returns-then-prefix-name-clause-value c =
+    let p = c.args.prefix.now in
+    let n = c.args.name.now in
+    begins-by p n _ c.if-prefix-name.true
+    (cases_from_all c.all.new.self _ _ Same Differs c.all.ensures.ran (YieldsList-from_zip {s = c.zip.result} (YieldsList-from_slice p cc) (YieldsList-from_slice n cc))
+    (λ x q k. search (rules, tests)) (λ x q k. search (rules, tests)))
 
-pub returns-then-byte-word_inside : goal.returns-then-byte-word_inside
-returns-then-byte-word_inside c = search starts-otherwise
-
-pub loop-i-preserved : goal.loop-i-preserved
-loop-i-preserved c = (omega arith, search starts-again)
-
-pub returns : goal.returns
-returns c = search starts-end
+pub returns-else-prefix-name-clause-value : goal.returns-else-prefix-name-clause-value
+returns-else-prefix-name-clause-value c =
+    lt-leb _ _ c.if-prefix-name.false ∙ sym (starts-short c.args.prefix.now c.args.name.now c.if-prefix-name.false)

@@ -1,9 +1,0 @@
--- `list_rows::codes::every_byte` writes the bytes up to 255.
-use Rattle.std.proofs.Common.{◌-◌, ◌≤◌}
-use Rattle.list_rows.proofs.codes.every_byte.Given as goal
-
-abbrev pub invariant-loop-byte : goal.invariant-loop-byte
-invariant-loop-byte l = l.byte ≤ 256
-
-abbrev pub decreases-loop-byte : goal.decreases-loop-byte
-decreases-loop-byte l = 256 - l.byte

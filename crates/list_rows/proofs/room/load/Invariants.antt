@@ -1,9 +1,0 @@
--- `list_rows::room::load` writes the words of the row.
-use Rattle.std.proofs.Common.{◌-◌, ◌≤◌, length}
-use Rattle.list_rows.proofs.room.load.Given as goal
-
-abbrev pub invariant-loop-i : goal.invariant-loop-i
-invariant-loop-i l = l.i ≤ length l.row
-
-abbrev pub decreases-loop-i : goal.decreases-loop-i
-decreases-loop-i l = length l.row - l.i

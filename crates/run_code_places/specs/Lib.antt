@@ -1,0 +1,2 @@
+-- The definitions that contracts of the crates above cite.
+pub mod Options
