@@ -1,6 +1,5 @@
 /* What the engine needs of a C library, for programs that have none. */
 #include <stddef.h>
-#include <stdint.h>
 
 void *memset(void *cells, int byte, size_t length) {
   unsigned char *at = cells;
@@ -12,16 +11,5 @@ void *memcpy(void *restrict to, const void *restrict from, size_t length) {
   unsigned char *at = to;
   const unsigned char *source = from;
   while (length--) *at++ = *source++;
-  return to;
-}
-
-void *memmove(void *to, const void *from, size_t length) {
-  unsigned char *at = to;
-  const unsigned char *source = from;
-  if ((uintptr_t)to <= (uintptr_t)from) {
-    while (length--) *at++ = *source++;
-  } else {
-    while (length--) at[length] = source[length];
-  }
   return to;
 }
