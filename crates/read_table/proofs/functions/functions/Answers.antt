@@ -31,11 +31,5 @@ loop-next-init c = record {
 pub loop-next-smaller : goal.loop-next-smaller
 loop-next-smaller c = let falls = rw c.in-Continue.is at c.next_declaration.ensures.declares.falls in falls _ refl
 
-pub loop-next-preserved : goal.loop-next-preserved
-loop-next-preserved c = record {
-  same = rw c.next_declaration.ensures.same c.loop-next.invariant.same;
-  stands = turned c.next_declaration.ensures c.loop-next.invariant.same c.loop-next.invariant.stands c.in-Continue.is;
-}
-
 pub returns-in-Break : goal.returns-in-Break
 returns-in-Break c = turned c.next_declaration.ensures c.loop-next.invariant.same c.loop-next.invariant.stands c.in-Break.is
