@@ -16,7 +16,7 @@ use read_tokens::Span;
 use tape_words::limits::{MAX_IDENTIFIER, MAX_NAME};
 
 // Whether text[x] is `word`.
-fn spells(text: &[u8], x: Span, word: &[u8]) -> bool
+pub fn spells(text: &[u8], x: Span, word: &[u8]) -> bool
     requires { Inside text.now x }
     ensures { result ≡ same_bytes (span_text text.now x) word.now }
 {

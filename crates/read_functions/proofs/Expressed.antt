@@ -230,33 +230,37 @@ module _ {text : Bytes} {v : Variables} {depth : ℕ} {start : ExpressionCounts}
         behind = λ bound h. item-behind bound g.0 g.1 (q.so.behind bound h);
       }
 
-  item-wrong : {fault : Fault} (bound : ℕ) → WrongInExpression text v s (token_item text t) t.place fault → is_item (token_item text t) ≡ true
-      → Behind text v depth start tape₀ q.tape s bound
+  pub item-wrong : {fault : Fault} {bound : ℕ} → WrongInExpression text v s (token_item text t) t.place fault × (is_item (token_item text t) ≡ true)
+      → length (stream text Tokens.inside start.at) ≤ bound
       → ExpressionAgrees text v bound depth start tape₀ tape' (Err fault)
-  item-wrong {fault} bound w y b =
-      let i = item-then q.comes y in
+  item-wrong {fault} {bound} g h =
+      let b = q.so.behind bound h in
+      let i = item-then q.comes g.1 in
       let item = token_item text t in
       let rest =
       Reading.parse_expression (b.left - 1) (symbol_names text v) depth (Reading.past_item item (progress_at text v s))
       (stream text Tokens.inside t.past) in
       let wrong = not-accepted fault.refusal in
       stops (stopped-before (at-step b i.unrolled
-      ∙ rw (y, w.number, w.place, check-wrong (refusal_number fault.refusal) (placed_of text t) (with_first (then_item item) rest) wrong)))
+      ∙ rw (g.1, g.0.number, g.0.place, check-wrong (refusal_number fault.refusal) (placed_of text t) (with_first (then_item item) rest) wrong)))
 
   -- A WORD
 
-  word-refused : {fault : Fault} (bound : ℕ) → WordRefused text t fault → Behind text v depth start tape₀ q.tape s bound
+  pub word-refused : {fault : Fault} {bound : ℕ} → WordRefused text t fault → length (stream text Tokens.inside start.at) ≤ bound
       → ExpressionAgrees text v bound depth start tape₀ tape' (Err fault)
-  word-refused bound g b =
+  word-refused {bound = bound} g h =
+      let b = q.so.behind bound h in
       stops (rw (at-step b q.comes.unrolled, g.other, word-no-sign Tokens.less_than _ g.word, g.word, g.number, g.place))
+
+  -- EITHER
 
   pub token-refused : {fault : Fault} {bound : ℕ} → r ≡ Err fault → length (stream text Tokens.inside start.at) ≤ bound
       → ExpressionAgrees text v bound depth start tape₀ tape' (Err fault)
   token-refused {fault} {bound} e h = by (given e)
     where
       by : TokenJoined text v s q.tape t tape' (Err fault) → ExpressionAgrees text v bound depth start tape₀ tape' (Err fault)
-      by (inl w) = item-wrong bound w.0 w.1 (q.so.behind bound h)
-      by (inr w) = word-refused bound w (q.so.behind bound h)
+      by (inl w) = item-wrong w h
+      by (inr w) = word-refused w h
 
   -- THE END
 

@@ -1,7 +1,7 @@
 -- The readers of a function and of a table's functions.
 use Prim.Native.Nat.{ℕ, zero, suc, ◌+◌, ◌-◌, ◌≤◌, ◌<◌}
 use mathlib.Core.Path.{◌≡◌, refl, sym, ◌∙◌, ap}
-use mathlib.Core.Bool.{Bool, true, false, not, false≢true}
+use mathlib.Core.Bool.{Bool, true, false, not}
 use mathlib.Core.List.{List, [], ◌∷◌, ◌++◌, append_assoc, append-nil}
 use native.Mathlib.Numerals.{add-one}
 use native.Mathlib.Omega.{arith}
@@ -28,7 +28,8 @@ use Rattle.read_tokens.specs.declared.Span.{Span}
 use Rattle.read_tokens.specs.declared.Token.{Token}
 use Rattle.read_tokens.specs.declared.Token.TheVariants.{Name as NameToken}
 use Rattle.read_tokens.specs.declared.Placed as Code
-use Rattle.std.specs.Prelude.{Option, Some, None, Result, Ok, Err}
+use Rattle.std.specs.Prelude.{Result, Ok, Err, IfOk}
+use Rattle.std.specs.declared.ops.ControlFlow.TheVariants.{Continue, Break}
 use Rattle.answers.specs.declared.Refusal.TheVariants.{OverLimit, WrongName}
 use Rattle.answers.specs.declared.Fault.{Fault}
 use Rattle.answers.proofs.Refused.{not-accepted}
@@ -41,13 +42,12 @@ use Rattle.read_bookkeeping.specs.Answered.{Agrees}
 use Rattle.read_bookkeeping.specs.Written.{WroteOnTape, is_quiet, Ready, Went}
 use Rattle.read_bookkeeping.specs.Tokened.{sign_is, Taken}
 use Rattle.read_functions.specs.declared.functions.Tally.{Tally}
-use Rattle.read_functions.specs.declared.functions.Reached.{Reached}
 use Rattle.read_functions.specs.Expressions.{fault_at}
 use Rattle.read_functions.specs.Sentences.{SentencesRead}
 use Rattle.read_functions.specs.Functions.{heads_from, Heads, declared_fault_in}
 use Rattle.read_functions.specs.Functions.{FunctionStands, from_brace, declared, Declarable, BodyRead, Opening, name_fault, DeclaredRead, SpareTo}
-use Rattle.read_functions.specs.Functions.{is_end_token, functions_of, FunctionsRead, Functioned, TallyIs, Underway}
-use Rattle.read_functions.specs.Functions.{new_tally, FunctionsAgree, DeclaresFrom, Declares}
+use Rattle.read_functions.specs.Functions.{is_end_token, functions_of, Functioned, TallyIs, StageIs, Underway}
+use Rattle.read_functions.specs.Functions.{new_tally, FunctionsAgree, Stage, Declares}
 use Rattle.read_bookkeeping.proofs.Lengths.{part_length, within}
 use Rattle.read_bookkeeping.proofs.Words.{written_over, written-before, OnTape, on-tape}
 use Rattle.read_bookkeeping.proofs.Going.{check-wrong, stops, reads, ReadAt, has-read, pass-follow, follow-alone, makes, went-none, went-from}
@@ -498,20 +498,66 @@ module _ {text start tape₁ heads₁ : List ℕ} {count : ℕ} {p : SentencesEn
 
 -- DECLARATIONS
 
+-- what is over stays so
+pub stage-over : {text tape heads : List ℕ} {at : ℕ} {stage : Stage} {read : Result Tally Fault} → stage ≡ Break read →
+    Declares text tape heads at stage tape heads (Break read)
+stage-over {stage = stage} {read} e =
+    record {
+      keeps = λ start s. rw e at s;
+      counts = λ n f. absurd (ended f);
+      falls = λ n f. absurd (ended f);
+      stays = λ b f. (ap Break (over f), refl, refl);
+    }
+  where
+    over : {b : Result Tally Fault} → stage ≡ Break b → read ≡ b
+    over f = let same : ◌≡◌ {A = Stage} (Break read) (Break _) = sym e ∙ f in cc
+
+    ended : {n : Tally} → stage ≡ Continue n → ⊥
+    ended f =
+        let both : ◌≡◌ {A = Stage} (Break read) (Continue _) = sym e ∙ f in
+        let z : ◌≡◌ {A = ℕ} 0 1 = cc in
+        omega arith
+
+pub place_inside : {text tape heads : List ℕ} {at : ℕ} {stage : Stage} {n : Tally} → Underway text tape heads at stage → stage ≡ Continue n →
+    at ≤ length text
+place_inside u e = (rw e at u.is).went.inside
+
 -- more may come, and a token does
-pub record TallyAt (text tape heads : List ℕ) (at : ℕ) (n : Tally) (t : Code.Placed) : Type 0 where
-  pub underway : Underway text tape heads at n
+pub record StageAt (text tape heads : List ℕ) (at : ℕ) (stage : Stage) (n : Tally) (t : Code.Placed) : Type 0 where
+  pub underway : Underway text tape heads at stage
+  pub onward : stage ≡ Continue n
   pub comes : Comes text Tokens.outside at t
 
-pub place_inside : {text tape heads : List ℕ} {at : ℕ} {n : Tally} → Underway text tape heads at n → at ≤ length text
-place_inside u = u.is.went.inside
+module _ {text tape heads : List ℕ} {at : ℕ} {stage : Stage} {n : Tally} {t : Code.Placed} (k : StageAt text tape heads at stage n t) where
+  functioned : {start : List ℕ} → StageIs text start tape heads at stage → Functioned text start tape heads at n.words n.functions n.left
+  functioned s = rw k.onward at s
 
-module _ {text tape heads : List ℕ} {at : ℕ} {n : Tally} {t : Code.Placed} (k : TallyAt text tape heads at n t) where
   abbrev so_far : Functioned text k.underway.start tape heads at n.words n.functions n.left
-  so_far = k.underway.is
+  so_far = functioned k.underway.is
 
-  pub text-ends : is_end_token t.token ≡ true → Declares text tape heads at n tape heads (Ok None)
-  text-ends e = record { keeps = λ start f. functions-done f k.comes e; counts = tt }
+  this-tally : {m : Tally} → stage ≡ Continue m → n ≡ m
+  this-tally f = let same : ◌≡◌ {A = Stage} (Continue n) (Continue _) = sym k.onward ∙ f in cc
+
+  goes-on : {A : Type 0} {read : Result Tally Fault} → stage ≡ Break read → A
+  goes-on {read = read} f =
+      let both : ◌≡◌ {A = Stage} (Continue n) (Break read) = sym k.onward ∙ f in
+      let z : ◌≡◌ {A = ℕ} 0 1 = cc in
+      absurd (omega arith)
+
+  -- the reading is over
+  ends_with : {tape' heads' : List ℕ} {read : Result Tally Fault} → IfOk read (λ all. all ≡ n)
+      → ((start : List ℕ) → Functioned text start tape heads at n.words n.functions n.left → FunctionsAgree text start tape' heads' read)
+      → Declares text tape heads at stage tape' heads' (Break read)
+  ends_with c a =
+      record {
+        keeps = λ start s. a start (functioned s);
+        counts = λ m f. rw (sym (this-tally f)) c;
+        falls = λ m f. rw k.onward (omega (arith, so_far.few));
+        stays = λ b f. goes-on f;
+      }
+
+  pub text-ends : is_end_token t.token ≡ true → Declares text tape heads at stage tape heads (Break (Ok n))
+  text-ends e = ends_with refl (λ start f. functions-done f k.comes e)
 
   module _ (e : is_end_token t.token ≡ false) where
     another : {start : List ℕ} (f : Functioned text start tape heads at n.words n.functions n.left) → Another f t
@@ -520,15 +566,15 @@ module _ {text tape heads : List ℕ} {at : ℕ} {n : Tally} {t : Code.Placed} (
     pub next-opening : Opening text tape heads n.functions n.words t
     next-opening = opening (another so_far)
 
-    module _ {tape' heads' : List ℕ} where
-      pub next-stops : {fault : Fault} → FunctionAgrees text tape heads n.functions n.left n.words t tape' heads' (Err fault)
-          → Declares text tape heads at n tape' heads' (Err fault)
-      next-stops a = record { keeps = λ start f. function-stops (another f) a; counts = tt }
+    module _ {tape' heads' : List ℕ} {r : Result SentencesEnd Fault}
+        (a : FunctionAgrees text tape heads n.functions n.left n.words t tape' heads' r) where
+      pub next-stops : {fault : Fault} → r ≡ Err fault → Declares text tape heads at stage tape' heads' (Break (Err fault))
+      next-stops q = ends_with tt (λ start f. function-stops (another f) (rw q at a))
 
-      module _ {p : SentencesEnd} (a : FunctionAgrees text tape heads n.functions n.left n.words t tape' heads' (Ok p)) where
+      module _ {p : SentencesEnd} (q : r ≡ Ok p) where
         more : {start : List ℕ} → Functioned text start tape heads at n.words n.functions n.left →
             OneMore text start tape' heads' n.functions p
-        more f = one_more_lem (another f) a
+        more f = one_more_lem (another f) (rw q at a)
 
         pub next-inside : p.at ≤ length text
         next-inside = (more so_far).read.how.read.went.inside
@@ -537,6 +583,12 @@ module _ {text tape heads : List ℕ} {at : ℕ} {n : Tally} {t : Code.Placed} (
         next-few = room-before (more so_far)
 
         pub next-goes : {at' : ℕ} → SpareTo text p.at at'
-            → Declares text tape heads at n tape' heads'
-            (Ok (Some (record { tally = record { words = p.words; functions = n.functions + 1; left = p.left }; at = at' })))
-        next-goes s = record { keeps = λ start f. function-goes (more f) s; counts = refl }
+            → Declares text tape heads at stage tape' heads'
+            (Continue (record { tally = record { words = p.words; functions = n.functions + 1; left = p.left }; at = at' }))
+        next-goes s =
+            record {
+              keeps = λ start f. function-goes (more (functioned f)) s;
+              counts = λ m f. ap (λ (x : Tally). x.functions + 1) (this-tally f);
+              falls = λ m f. rw k.onward (omega (arith, next-few));
+              stays = λ b f. goes-on f;
+            }

@@ -1,7 +1,10 @@
 -- The functions of a table while they are read.
 use Rattle.std.specs.Prelude.{ℕ, ◌+◌, ◌-◌, ◌≤◌, ◌<◌, ◌≡◌, Bool, true, false}
 use Rattle.std.specs.Prelude.{not, List, [], ◌∷◌, ◌++◌, T, ltb, length, take}
-use Rattle.std.specs.Prelude.{Option, Some, None, Result, Ok, Err, IfOk, IfSome}
+use Rattle.std.specs.Prelude.{Result, IfOk}
+use Rattle.std.specs.ControlFlow.{ForBreak, ForContinue}
+use Rattle.std.specs.declared.ops.ControlFlow.{ControlFlow}
+use Rattle.std.specs.declared.ops.ControlFlow.TheVariants.{Continue, Break}
 use Rattle.meaning.specs.Choice.{Bytes, Name, pick, both, every}
 use Rattle.meaning.specs.Answers.{over_limit, wrong_name}
 use Rattle.meaning.specs.Names.{is_reserved}
@@ -19,7 +22,6 @@ use Rattle.read_tokens.specs.declared.Token.TheVariants.{Name as NameToken, Symb
 use Rattle.read_tokens.specs.declared.Token.TheVariants.{Malformed}
 use Rattle.read_tokens.specs.declared.Placed.{Placed}
 use Rattle.answers.specs.declared.Fault.{Fault}
-use Rattle.answers.specs.Numbers.{refusal_number}
 use Rattle.read_bookkeeping.specs.Answered.{Agrees}
 use Rattle.read_functions.specs.declared.sentences.SentencesEnd.{SentencesEnd}
 use Rattle.read_functions.specs.declared.functions.Tally.{Tally}
@@ -152,27 +154,52 @@ pub record Functioned (text start tape heads : List ℕ) (at words count left : 
 abbrev pub TallyIs : Bytes → List ℕ → List ℕ → List ℕ → ℕ → Tally → Type 0
 TallyIs text start tape heads at n = Functioned text start tape heads at n.words n.functions n.left
 
-pub record Underway (text tape heads : List ℕ) (at : ℕ) (n : Tally) : Type 0 where
-  pub start : List ℕ
-  pub is : TallyIs text start tape heads at n
-
-abbrev pub new_tally : Tally
-new_tally = record { words = 0; functions = 0; left = max_sentences }
-
 -- what the reading of a text's functions comes to
 abbrev pub FunctionsAgree : Bytes → List ℕ → List ℕ → List ℕ → Result Tally Fault → Type 0
 FunctionsAgree text start tape' heads r = Agrees (FunctionsRead text start tape' heads) (functions_of text) r
 
--- a declaration was read, and reading stands at the place reached as it stood before, with less to come; or the text
--- ends, or a fault stops it, and what the reading of all functions comes to is that
-abbrev pub DeclaresFrom : Bytes → List ℕ → List ℕ → List ℕ → Tally → List ℕ → List ℕ → Result (Option Reached) Fault
-    → Type 0
-DeclaresFrom text start tape heads n tape' heads' (Ok (Some next)) =
-    TallyIs text start tape' heads' next.at next.tally
-DeclaresFrom text start tape heads n tape' heads' (Ok None) = FunctionsAgree text start tape' heads' (Ok n)
-DeclaresFrom text start tape heads n tape' heads' (Err fault) = FunctionsAgree text start tape' heads' (Err fault)
+-- another declaration may come after these functions, or the reading is over and came to this
+abbrev pub Stage : Type 0
+Stage = ControlFlow (Result Tally Fault) Tally
 
-pub record Declares (text tape heads : List ℕ) (at : ℕ) (n : Tally) (tape' heads' : List ℕ)
-    (r : Result (Option Reached) Fault) : Type 0 where
-  pub keeps : (start : List ℕ) → TallyIs text start tape heads at n → DeclaresFrom text start tape heads n tape' heads' r
-  pub counts : IfOk r (λ o. IfSome o (λ next. next.tally.functions ≡ n.functions + 1))
+-- the same where another declaration may come; where the reading is over, that it came to what it comes to
+abbrev pub StageIs : Bytes → List ℕ → List ℕ → List ℕ → ℕ → Stage → Type 0
+StageIs text start tape heads at (Continue n) = TallyIs text start tape heads at n
+StageIs text start tape heads at (Break read) = FunctionsAgree text start tape heads read
+
+pub record Underway (text tape heads : List ℕ) (at : ℕ) (stage : Stage) : Type 0 where
+  pub start : List ℕ
+  pub is : StageIs text start tape heads at stage
+
+abbrev pub new_tally : Tally
+new_tally = record { words = 0; functions = 0; left = max_sentences }
+
+-- the declarations that may still come, and the end of the text
+abbrev pub to_come : Stage → ℕ
+to_come (Continue n) = max_functions + 1 - n.functions
+to_come (Break read) = 0
+
+-- the stage after a declaration
+abbrev pub stage_of : ControlFlow (Result Tally Fault) Reached → Stage
+stage_of (Continue next) = Continue next.tally
+stage_of (Break read) = Break read
+
+-- a declaration was read, and reading stands so at the place reached; or the text ends, a fault stops it or it was
+-- over before, and what the reading of all functions comes to is that
+abbrev pub DeclaresFrom : Bytes → List ℕ → List ℕ → List ℕ → ControlFlow (Result Tally Fault) Reached → Type 0
+DeclaresFrom text start tape heads (Continue next) = TallyIs text start tape heads next.at next.tally
+DeclaresFrom text start tape heads (Break read) = FunctionsAgree text start tape heads read
+
+-- one function more was read after those of a tally, or the text ended after them
+abbrev pub Counts : Tally → ControlFlow (Result Tally Fault) Reached → Type 0
+Counts n (Continue next) = next.tally.functions ≡ n.functions + 1
+Counts n (Break read) = IfOk read (λ all. all ≡ n)
+
+-- reading stands as it stood before; where another declaration might come, less may come now; where it was over, all
+-- stays as it was
+pub record Declares (text tape heads : List ℕ) (at : ℕ) (stage : Stage) (tape' heads' : List ℕ)
+    (r : ControlFlow (Result Tally Fault) Reached) : Type 0 where
+  pub keeps : (start : List ℕ) → StageIs text start tape heads at stage → DeclaresFrom text start tape' heads' r
+  pub counts : ForContinue stage (λ n. Counts n r)
+  pub falls : ForContinue stage (λ n. to_come (stage_of r) < to_come stage)
+  pub stays : ForBreak stage (λ read. (r ≡ Break read) × (tape' ≡ tape) × (heads' ≡ heads))

@@ -17,6 +17,7 @@ use read_bookkeeping::names::check_called;
 use read_bookkeeping::progress::{is_sign, pass, refuse};
 use read_bookkeeping::writing::{put_bytes, put_name};
 use read_tokens::{Mode, Placed, Span, Token, lex};
+use std::ops::ControlFlow;
 use tape_words::limits::{MAX_FUNCTIONS, MAX_SENTENCES};
 use tape_words::names::is_known;
 use tape_words::wide::FUNCTION_WORD;
@@ -41,6 +42,9 @@ impl Tally {
         }
     }
 }
+
+// How the reading of a table's functions stands: another may come, or it is over, and what it came to.
+pub type Stage = ControlFlow<Result<Tally, Fault>, Tally>;
 
 // What was read with one function more, and the place in the text where the next may come.
 #[derive(Clone, Copy)]
@@ -116,29 +120,37 @@ fn is_end_token(t: Placed) -> bool
     matches!(t.token, Token::End)
 }
 
-// Reads the declaration that comes at a place, with a spare `;` after it, and notes its head; nothing where the text
-// ends.
+// Reads the declaration that comes at a place, with a spare `;` after it, and notes its head. A reading that is over is
+// handed back as it is.
 pub fn declaration(
     text: &[u8],
     at: usize,
     tape: &mut [u32],
     heads: &mut [usize; MAX_FUNCTIONS],
-    n: Tally,
-) -> Result<Option<Reached>, Fault>
-    requires { Underway text.now tape.old heads.old at n }
-    ensures { Declares text.now tape.old heads.old at n tape.new
+    stage: Stage,
+) -> ControlFlow<Result<Tally, Fault>, Reached>
+    requires { Underway text.now tape.old heads.old at stage }
+    ensures { Declares text.now tape.old heads.old at stage tape.new
         heads.new result }
 {
+    let n = match stage {
+        ControlFlow::Continue(n) => n,
+        ControlFlow::Break(read) => return ControlFlow::Break(read),
+    };
     let t = lex(text, at, Mode::Outside);
     if is_end_token(t) {
-        return Ok(None);
+        return ControlFlow::Break(Ok(n));
     }
-    let f = function(text, tape, heads, n.functions, n.left, t, n.words)?;
-    let tally = Tally {
-        words: f.words,
-        functions: n.functions + 1,
-        left: f.left,
-    };
-    let past = pass_spare(text, f.at);
-    Ok(Some(Reached { tally, at: past }))
+    match function(text, tape, heads, n.functions, n.left, t, n.words) {
+        Err(fault) => ControlFlow::Break(Err(fault)),
+        Ok(f) => {
+            let tally = Tally {
+                words: f.words,
+                functions: n.functions + 1,
+                left: f.left,
+            };
+            let past = pass_spare(text, f.at);
+            ControlFlow::Continue(Reached { tally, at: past })
+        }
+    }
 }

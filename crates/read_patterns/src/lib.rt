@@ -20,7 +20,7 @@ ghost use Rattle.read_patterns.specs.Patterns.{AddsString, AddsItem, AddsToken, 
 
 use answers::{Fault, Refusal};
 use read_bookkeeping::names::find;
-use read_bookkeeping::progress::refuse_if;
+use read_bookkeeping::progress::{is_word, refuse_if};
 use read_bookkeeping::variables::{MAX_PARTS, Variables};
 use read_bookkeeping::writing::{put_characters, put_name};
 use read_tokens::{Mode, Placed, Span, Token, lex};
@@ -199,19 +199,24 @@ fn add(
     ensures { AddsToken text.now variables.old p tape.old t variables.new
         tape.new result }
 {
-    match t.token {
-        Token::Quoted(count) => {
-            let next = add_string(text, tape, p, t.place, t.past, count)?;
-            Ok(Some(next))
-        }
-        Token::Symbol(x) => Ok(Some(add_symbol(text, tape, variables, p, x, t.place)?)),
-        Token::Part(x) => Ok(Some(add_part(text, tape, variables, p, x, t.place)?)),
-        Token::Word => Err(Fault {
+    let token = t.token;
+    if let Token::Quoted(count) = token {
+        let next = add_string(text, tape, p, t.place, t.past, count)?;
+        return Ok(Some(next));
+    }
+    if !is_word(t) {
+        return Ok(None);
+    }
+    if let Token::Symbol(x) = token {
+        return Ok(Some(add_symbol(text, tape, variables, p, x, t.place)?));
+    }
+    let Token::Part(x) = token else {
+        return Err(Fault {
             refusal: Refusal::NotAllowedHere,
             place: t.place,
-        }),
-        _ => Ok(None),
-    }
+        });
+    };
+    Ok(Some(add_part(text, tape, variables, p, x, t.place)?))
 }
 
 // Reads a pattern, and its variables into what is lent for them, whatever that held.

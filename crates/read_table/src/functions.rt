@@ -3,26 +3,29 @@ ghost use Rattle.read_functions.specs.Functions.{FunctionsAgree, Underway};
 ghost use Rattle.read_table.specs.Through.{Readable, GoesOn};
 
 use answers::Fault;
-use read_functions::functions::{Tally, declaration};
+use read_functions::functions::{Stage, Tally, declaration};
 use read_tokens::reader::Reader;
+use std::ops::ControlFlow;
 use tape_words::limits::MAX_FUNCTIONS;
 
-// Reads the next declaration, and the reader goes on to the place that was reached; nothing where the text ends.
+// Reads the next declaration, and the reader goes on to the place that was reached; a reading that is over stays so.
 fn next_declaration<'s, 'a, 't, 'n>(
     reader: &'s mut Reader<'a>,
     tape: &'t mut [u32],
     heads: &'n mut [usize; MAX_FUNCTIONS],
-    n: Tally,
-) -> Result<Option<Tally>, Fault>
-    requires { Underway reader.old.text.now tape.old heads.old reader.old.at n }
-    ensures { GoesOn reader.old tape.old heads.old n reader.new
+    stage: Stage,
+) -> Stage
+    requires { Underway reader.old.text.now tape.old heads.old reader.old.at stage }
+    ensures { GoesOn reader.old tape.old heads.old stage reader.new
         tape.new heads.new result }
 {
-    let Some(reached) = declaration(reader.text, reader.at, tape, heads, n)? else {
-        return Ok(None);
-    };
-    reader.at = reached.at;
-    Ok(Some(reached.tally))
+    match declaration(reader.text, reader.at, tape, heads, stage) {
+        ControlFlow::Continue(reached) => {
+            reader.at = reached.at;
+            ControlFlow::Continue(reached.tally)
+        }
+        ControlFlow::Break(read) => ControlFlow::Break(read),
+    }
 }
 
 // Reads the functions of a text and notes their heads.
@@ -36,8 +39,11 @@ pub fn functions(
 {
     let mut reader = Reader::new(text);
     let mut n = Tally::new();
-    while let Some(next) = next_declaration(&mut reader, tape, heads, n)? {
-        n = next;
+    // Each declaration begins where the one before it ended, so no `for` counts them.
+    loop {
+        match next_declaration(&mut reader, tape, heads, ControlFlow::Continue(n)) {
+            ControlFlow::Continue(next) => n = next,
+            ControlFlow::Break(read) => return read,
+        }
     }
-    Ok(n)
 }

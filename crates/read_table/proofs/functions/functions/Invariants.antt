@@ -1,9 +1,8 @@
 -- The loop invariant and the measure of `functions::functions`. The reader goes on in the same text, and reading
 -- stands at its place as the tally says; fewer declarations may come after each turn.
-use Prim.Native.Nat.{◌-◌}
 use mathlib.Core.Path.{◌≡◌}
-use Rattle.meaning.specs.Allowed.{max_functions}
-use Rattle.read_functions.specs.Functions.{TallyIs}
+use Rattle.std.specs.declared.ops.ControlFlow.TheVariants.{Continue}
+use Rattle.read_functions.specs.Functions.{TallyIs, to_come}
 use Rattle.read_table.proofs.functions.functions.Given as goal
 
 abbrev pub invariant-loop-next : goal.invariant-loop-next
@@ -13,4 +12,4 @@ invariant-loop-next l = record {
 }
 
 abbrev pub decreases-loop-next : goal.decreases-loop-next
-decreases-loop-next l = max_functions - l.n.functions
+decreases-loop-next l = to_come (Continue l.n)
