@@ -16,7 +16,22 @@ use run_code_places::wide;
 pub fn byte_at(field: &[u8], index: usize) -> Option<u8>
     ensures { option_meant result ≡ nth index field.now }
 {
-    field.get(index).copied()
+    if index < field.len() {
+        Some(field[index])
+    } else {
+        None
+    }
+}
+
+// The cell so far from a place, which may lie past the end.
+fn byte_after(field: &[u8], place: usize, offset: usize) -> Option<u8>
+    ensures { option_meant result ≡ nth (place + offset) field.now }
+{
+    if offset < field.len().saturating_sub(place) {
+        Some(field[place + offset])
+    } else {
+        None
+    }
 }
 
 // The byte at a site: counted from p, back from q, or from the middle template's place.
@@ -26,7 +41,7 @@ pub fn cell_at(field: &[u8], place: usize, register: u32, offset: u32) -> Option
     match register {
         FROM_START => byte_at(field, wide(offset)),
         FROM_END => byte_at(field, field.len().checked_sub(wide(offset))?),
-        FROM_PLACE => byte_at(field, place.checked_add(wide(offset))?),
+        FROM_PLACE => byte_after(field, place, wide(offset)),
         _ => None,
     }
 }
