@@ -86,7 +86,9 @@ pub fn copy_words(from: &[usize], count: usize, to: &mut [usize])
     requires count_in_bounds_2 { count ≤ length to.old }
     ensures leaves { to.new ≡ take count from.now ++ drop count to.old }
 {
-    to[..count].copy_from_slice(&from[..count]);
+    for i in 0..count {
+        to[i] = from[i];
+    }
 }
 
 fn word(frames: &[usize], frame: usize, index: usize) -> usize

@@ -49,7 +49,9 @@ pub fn copy_over(to: &mut [u8], at: usize, from: &[u8])
         copy_few(to, at, from);
         return;
     }
-    to[at..at + from.len()].copy_from_slice(from);
+    for i in 0..from.len() {
+        to[at + i] = from[i];
+    }
 }
 
 // The same from a place of its kind on.

@@ -46,6 +46,13 @@ impl<S: Copy> Place<S> {
         Place::new(self.0 - count)
     }
 
+    // How many cells stand before it.
+    pub fn count_before(self) -> usize
+        ensures { result ≡ self.0 }
+    {
+        self.0
+    }
+
     // How many cells there are up to another place, and from this one on.
     pub fn until(self, end: Place<S>) -> usize
         requires { self.0 ≤ end.0 }

@@ -71,9 +71,9 @@ pub fn scan(field: &[u8], word: CodeWord, first: usize, places: usize) -> Option
 {
     let offset = wide(word.second());
     let byte = word.third() as u8;
-    for place in first..first + places {
-        if field[place + offset] == byte {
-            return Some(place);
+    for here in first..first + places {
+        if field[here + offset] == byte {
+            return Some(here);
         }
     }
     None

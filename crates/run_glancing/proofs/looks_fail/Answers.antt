@@ -2,6 +2,7 @@
 use native.Mathlib.Omega.{arith}
 use Prim.Native.Nat.{◌+◌, ◌-◌, ◌<◌}
 use mathlib.Core.Path.{◌≡◌}
+use Rattle.run_glancing.specs.declared.Glimpse.TheVariants.{Right}
 use Rattle.run_glancing.proofs.Laws.Looks.{fails-after, fails-here}
 use Rattle.run_glancing.proofs.looks_fail.Goals as goal
 
@@ -14,4 +15,6 @@ pub loop-at-preserved : goal.loop-at-preserved
 loop-at-preserved c place h e =
     let some : 0 < c.args.tests.0 + c.args.count - c.loop-at.at = omega arith in
     let rest : c.args.tests.0 + c.args.count - (c.loop-at.at + 1) ≡ c.args.tests.0 + c.args.count - c.loop-at.at - 1 = omega arith in
-    c.loop-at.invariant place h (fails-after _ place _ _ _ some c.if-code-at.false (c.in-Right.ensures place h) (rw rest at e))
+    let right : c.look.result ≡ Right = cc in
+    c.loop-at.invariant place h
+    (fails-after _ place _ _ _ some c.if-code-at.false (rw right at (c.look.ensures place h)) (rw rest at e))

@@ -8,22 +8,22 @@ use Rattle.run_searching.proofs.Laws.Places.{no-places}
 use Rattle.run_searching.proofs.Laws.Scanning.{scan-here, scan-on}
 use Rattle.run_searching.proofs.scan.Goals as goal
 
-pub returns-then-field-place : goal.returns-then-field-place
-returns-then-field-place c =
-    let there : c.loop-place.place + second_in c.args.word.0 < length c.args.field.now = omega (arith, c.requires) in
-    let some : 0 < c.args.first + c.args.places - c.loop-place.place = omega arith in
-    let here = rw (c.wide-offset.ensures, c.second.ensures, c.third-byte.ensures) at c.if-field-place.true in
-    rw (scan-here _ _ (third_in c.args.word.0) _ _ some there here) at c.loop-place.invariant
+pub returns-then-field-here : goal.returns-then-field-here
+returns-then-field-here c =
+    let there : c.loop-here.here + second_in c.args.word.0 < length c.args.field.now = omega (arith, c.requires) in
+    let some : 0 < c.args.first + c.args.places - c.loop-here.here = omega arith in
+    let here = rw (c.wide-offset.ensures, c.second.ensures, c.third-byte.ensures) at c.if-field-here.true in
+    rw (scan-here _ _ (third_in c.args.word.0) _ _ some there here) at c.loop-here.invariant
 
-pub loop-place-preserved : goal.loop-place-preserved
-loop-place-preserved c =
-    let there : c.loop-place.place + second_in c.args.word.0 < length c.args.field.now = omega (arith, c.requires) in
-    let some : 0 < c.args.first + c.args.places - c.loop-place.place = omega arith in
-    let other = rw (c.wide-offset.ensures, c.second.ensures, c.third-byte.ensures) at c.if-field-place.false in
-    let rest : c.args.first + c.args.places - (c.loop-place.place + 1) ≡ c.args.first + c.args.places - c.loop-place.place - 1 = omega arith in
-    rw rest (rw (scan-on _ _ (third_in c.args.word.0) _ _ some there other) at c.loop-place.invariant)
+pub loop-here-preserved : goal.loop-here-preserved
+loop-here-preserved c =
+    let there : c.loop-here.here + second_in c.args.word.0 < length c.args.field.now = omega (arith, c.requires) in
+    let some : 0 < c.args.first + c.args.places - c.loop-here.here = omega arith in
+    let other = rw (c.wide-offset.ensures, c.second.ensures, c.third-byte.ensures) at c.if-field-here.false in
+    let rest : c.args.first + c.args.places - (c.loop-here.here + 1) ≡ c.args.first + c.args.places - c.loop-here.here - 1 = omega arith in
+    rw rest (rw (scan-on _ _ (third_in c.args.word.0) _ _ some there other) at c.loop-here.invariant)
 
 pub returns : goal.returns
 returns c =
-    let none : c.args.first + c.args.places - c.loop-place.place ≤ 0 = omega arith in
-    rw (no-places _ _ _ none) at c.loop-place.invariant
+    let none : c.args.first + c.args.places - c.loop-here.here ≤ 0 = omega arith in
+    rw (no-places _ _ _ none) at c.loop-here.invariant
