@@ -1,7 +1,7 @@
 -- A pattern's tests and its different s-variables, as they are written piece by piece.
 use Rattle.std.specs.Prelude.{ℕ, ◌+◌, ◌-◌, ◌≤◌, ◌<◌, ◌^◌, ◌≡◌, ◌/◌, ◌%◌, Bool, true, false, eqb}
 use Rattle.std.specs.Prelude.{List, [], ◌∷◌, map, length, take, drop, Option, Some, None, MatchOption}
-use Rattle.std.specs.List.{AllWithin, HoldsAt}
+use Rattle.std.specs.List.{All, AllWithin, HoldsAt}
 use Rattle.std.proofs.Math.Option.{Option as Found, none, some}
 use Rattle.meaning.specs.Allowed.{max_letters}
 use Rattle.meaning.specs.Choice.{Name, Named, same_bytes}
@@ -33,6 +33,10 @@ site_in Place o = from_place o
 
 abbrev pub site_meant : Site → MeantSite
 site_meant s = site_in s.register s.offset
+
+-- a cell's offset is no larger than a pattern's, which has so many letters at most
+abbrev pub SmallSite : Site → Type 0
+SmallSite s = s.offset ≤ max_letters
 
 abbrev pub site_found : Option Site → Found MeantSite
 site_found None = none
@@ -85,6 +89,10 @@ IsFirstNamed ws symbols n r =
     MatchOption r (AllWithin (LacksName ws n) symbols 0 (length symbols))
     (λ k. (k < length symbols) × HoldsAt (HasName ws n) symbols k × AllWithin (LacksName ws n) symbols 0 k)
 
+-- the cell of each is small
+abbrev pub AllSmall : List Symbol → Type 0
+AllSmall symbols = All (λ s. SmallSite s.site) symbols
+
 -- THE TESTS
 
 -- the tests of a pattern's letters, from an offset in a template on
@@ -126,6 +134,7 @@ pub record TestsOn (ws : List ℕ) (l : Lengths) (symbols : List Symbol) (w : Co
   pub known : (testing ws l symbols' r).value.sites ≡ (testing ws l symbols t).value.sites
   pub rest : (testing ws l symbols' r).rest ≡ (testing ws l symbols t).rest
   pub within : InTests ws symbols' r w'.at
+  pub small : AllSmall symbols → AllSmall symbols'
   pub ahead : t.next < r.next
   pub grown : w'.at + t.letters ≤ w.at + r.letters
 
@@ -165,12 +174,13 @@ part_done t size =
     }
 
 -- the whole pattern's tests are written, and its different s-variables are known
-pub record TestsAll (ws : List ℕ) (l : Lengths) (start : ℕ) (w : CodeWriter) (symbols : List Symbol)
-    (w' : CodeWriter) (r : Tests) : Type 0 where
+pub record TestsAll (ws : List ℕ) (l : Lengths) (start : ℕ) (symbols : List Symbol) (w : CodeWriter)
+    (symbols' : List Symbol) (w' : CodeWriter) (r : Tests) : Type 0 where
   pub wrote : Written w (map test_word (walk l Zero 0 (pattern_at (drop start ws)).value (start_from [])).tests) w'
-  pub known : known_so_far ws symbols r ≡ (walk l Zero 0 (pattern_at (drop start ws)).value (start_from [])).sites
+  pub known : known_so_far ws symbols' r ≡ (walk l Zero 0 (pattern_at (drop start ws)).value (start_from [])).sites
   pub rest : drop r.next ws ≡ (pattern_at (drop start ws)).rest
-  pub within : InTests ws symbols r w'.at
+  pub within : InTests ws symbols' r w'.at
+  pub small : AllSmall symbols → AllSmall symbols'
   pub grown : w'.at ≤ w.at + max_letters
 
 -- the length of all templates together

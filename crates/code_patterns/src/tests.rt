@@ -119,7 +119,7 @@ pub fn write_tests(
 ) -> Tests
     requires symbols_len { length symbols.old ≡ max_letters }
     requires lengths_bound { (total lengths ≤ max_letters) × (start ≤ length tape.now) × (code.old.at < 2 ^ 60) }
-    ensures { TestsAll tape.now lengths start code.old symbols.new code.new result }
+    ensures { TestsAll tape.now lengths start symbols.old code.old symbols.new code.new result }
 {
     let mut t = Tests {
         parts: Parts::Zero,

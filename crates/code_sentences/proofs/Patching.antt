@@ -25,7 +25,7 @@ sets-comm l i (x ∷ xs) j ys h =
     sets-comm (set l i x) (suc i) xs j ys (omega arith) ∙ ap (λ (r : List ℕ). sets r (suc i) xs) (sym (set_before l i x j ys (omega arith)))
 
 -- two words, of which the second is patched once what follows is written
-wrote-patched : {a b c d f : List ℕ} {i j k m : ℕ} {x y z : ℕ} {words : List ℕ}
+pub wrote-patched : {a b c d f : List ℕ} {i j k m : ℕ} {x y z : ℕ} {words : List ℕ}
     → Wrote a i (x ∷ []) b j → Wrote b j (z ∷ []) c k → Wrote c k words d m → f ≡ sets d j (y ∷ []) → Wrote a i (x ∷ y ∷ words) f m
 wrote-patched {a} {b} {c} {i = i} {j} {x = x} {y} {z} {words} v u w p =
     let e : j ≡ suc i = omega (arith, v.next) in

@@ -6,15 +6,23 @@ use Rattle.std.specs.List.{AllWithin, HoldsAt}
 use mathlib.Core.Option.{none, some}
 use lib.ListN.{get_or}
 use lib.Seq.{take-suc-set}
+use Rattle.meaning.specs.Allowed.{max_letters}
 use Rattle.meaning.specs.Choice.{Name, Named, lookup, same_bytes}
 use Rattle.meaning.specs.Classes.{class_number}
 use Rattle.meaning.specs.Instructions.{Site as MeantSite}
-use Rattle.meaning.specs.Packing.{truth_bit}
+use Rattle.meaning.specs.Packing.{site_offset, truth_bit}
 use Rattle.meaning.specs.Translation.{value_from, value_number}
 use Rattle.tape_layout.specs.Tape.{class_count}
+use Rattle.tape_words.specs.declared.tape.Parts.{Parts}
+use Rattle.tape_words.specs.declared.tape.Parts.TheVariants.{Zero, One, Two}
 use Rattle.tape_words.specs.Words.{class_in}
+use Rattle.code_patterns.specs.declared.pattern.Lengths.{Lengths}
+use Rattle.code_patterns.specs.declared.sites.Register.{Register}
+use Rattle.code_patterns.specs.declared.sites.Register.TheVariants.{Start, End, Place}
+use Rattle.code_patterns.specs.declared.sites.Site.{Site}
 use Rattle.code_patterns.specs.declared.symbols.Symbol.{Symbol}
-use Rattle.code_patterns.specs.Testing.{site_meant, symbol_name, held, HasName, LacksName, IsFirstNamed}
+use Rattle.code_patterns.specs.Testing.{site_in, site_meant, SmallSite, last_of, site_by, site_at, total}
+use Rattle.code_patterns.specs.Testing.{symbol_name, held, HasName, LacksName, IsFirstNamed}
 
 -- FINDING ONE
 
@@ -81,6 +89,36 @@ pub held_more : (ws : List ℕ) (symbols : List Symbol) (n : ℕ) (s : Symbol) �
     → held ws (take (n + 1) (set symbols n s))
     ≡ held ws (take n symbols) ++ record { name = symbol_name ws s; value = site_meant s.site } ∷ []
 held_more ws symbols n s h = rw (add-one, take-suc-set symbols n s h) (held-append ws (take n symbols) s)
+
+-- THEIR CELLS ARE SMALL
+
+offset-meant : (r : Register) (o : ℕ) → site_offset (site_in r o) ≡ o
+offset-meant Start o = refl
+offset-meant End o = refl
+offset-meant Place o = refl
+
+last-small : (p : Parts) (l : Lengths) → last_of p l ≤ total l
+last-small Zero l = omega arith
+last-small One l = omega arith
+last-small Two l = omega arith
+
+by-small : (parts template : Parts) (last o : ℕ) → last ≤ max_letters → o ≤ max_letters
+    → site_offset (site_by parts template last o) ≤ max_letters
+by-small parts Zero last o h k = k
+by-small Zero One last o h k = omega arith
+by-small One One last o h k = omega arith
+by-small Two One last o h k = k
+by-small parts Two last o h k = omega arith
+
+pub site-small : (l : Lengths) (template : Parts) (o : ℕ) → total l ≤ max_letters → o ≤ max_letters
+    → (cell : Site) → site_meant cell ≡ site_at l template o → SmallSite cell
+site-small l template o h k cell e =
+    omega (
+      arith,
+      offset-meant cell.register cell.offset,
+      ap site_offset e,
+      by-small l.parts template (last_of l.parts l) o (omega (arith, last-small l.parts l)) k,
+    )
 
 -- WHAT A CONDITION'S WORD SAYS
 

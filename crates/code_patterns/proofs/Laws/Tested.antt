@@ -24,11 +24,12 @@ use Rattle.code_patterns.specs.Scans.{Scan, scanned, prepended, one_more, piece_
 use Rattle.code_words.specs.declared.CodeWriter.{CodeWriter}
 use Rattle.code_words.specs.Writer.{Written, StillToWrite}
 use Rattle.code_patterns.specs.Testing.{site_meant, site_at, walk, start_from, known_so_far, testing, tests_over, test_words}
-use Rattle.code_patterns.specs.Testing.{InTests, TestsOn, letter_done, part_done, TestsAll}
+use Rattle.code_patterns.specs.Testing.{SmallSite, AllSmall, InTests, TestsOn, letter_done, part_done, TestsAll, total}
+use Rattle.std.proofs.lemmas.List.Elements.{All-set}
 use Rattle.tape_words.proofs.Laws.Names.{name-here}
 use Rattle.code_words.proofs.Laws.Writers.{still_refl, still-trans, still-words, still-wrote, still_end}
 use Rattle.code_patterns.proofs.Laws.Scanning.{Told, told, pattern-at, pattern-end, pattern-past}
-use Rattle.code_patterns.proofs.Laws.Held.{held_more}
+use Rattle.code_patterns.proofs.Laws.Held.{held_more, site-small}
 
 -- TESTS SO FAR STAY IN FRONT
 
@@ -64,6 +65,11 @@ module _ (l : Lengths) where
   walk-prefix (part x ∷ es) k o ts ss = walk-prefix es (one_more k) 0 ts ss
 
 -- THE STEPS
+
+-- the cell of the next letter is small
+pub site-near : {ws : List ℕ} {symbols : List Symbol} {t : Tests} {at : ℕ} (l : Lengths) → InTests ws symbols t at → total l ≤ max_letters
+    → (cell : Cell) → site_meant cell ≡ site_at l t.parts t.offset → SmallSite cell
+site-near {t = t} l within small = site-small l t.parts t.offset small (omega (arith, within.offset, within.letters))
 
 -- `piece` is the one where the tests stand
 module _ (ws : List ℕ) (l : Lengths) (symbols : List Symbol) (t : Tests) (w : CodeWriter) (within : InTests ws symbols t w.at) {piece : Piece}
@@ -120,19 +126,22 @@ module _ (ws : List ℕ) (l : Lengths) (symbols : List Symbol) (t : Tests) (w : 
         known = sym (ap (λ (s : Scan Tested). s.value.sites) now);
         rest = sym (ap (λ (s : Scan Tested). s.rest) now);
         within = letter-within n room fits within.room (omega arith) (omega (arith, wrote.put.next));
+        small = λ h. h;
         ahead = omega arith;
         grown = omega (arith, wrote.put.next);
       }
 
   -- nothing is written
   unwritten-on : {symbols' : List Symbol} (r : Tests) → testing ws l symbols t ≡ testing ws l symbols' r
-      → InTests ws symbols' r w.at → t.next < r.next → t.letters ≤ r.letters → TestsOn ws l symbols w t symbols' w r
-  unwritten-on {symbols'} r later inside ahead more =
+      → InTests ws symbols' r w.at → (AllSmall symbols → AllSmall symbols') → t.next < r.next → t.letters ≤ r.letters
+      → TestsOn ws l symbols w t symbols' w r
+  unwritten-on {symbols'} r later inside small ahead more =
       record {
         same = still-words (still_refl w _) (ap test_words later);
         known = sym (ap (λ (s : Scan Tested). s.value.sites) later);
         rest = sym (ap (λ (s : Scan Tested). s.rest) later);
         within = inside;
+        small = small;
         ahead = ahead;
         grown = omega arith;
       }
@@ -184,10 +193,10 @@ module _ (ws : List ℕ) (l : Lengths) (symbols : List Symbol) (t : Tests) (w : 
       (walk-prefix l (after_letter (length name)).value t.parts (t.offset + 1) (compare (site_meant first) site ∷ []) known))
       wrote (rw named at done) room read.fits
 
-  pub new-on : (cell : Cell) {r : Tests} {x : Name} → piece ≡ SVariable → x ≡ name → none ≡ lookup x known
+  pub new-on : total l ≤ max_letters → (cell : Cell) {r : Tests} {x : Name} → piece ≡ SVariable → x ≡ name → none ≡ lookup x known
       → site_meant cell ≡ site → r ≡ letter_done t (t.symbols + 1) (length x)
       → TestsOn ws l symbols w t (set symbols t.symbols (record { head = t.next; site = cell })) w r
-  new-on cell e named found at_site done =
+  new-on short cell e named found at_site done =
       let (read, room) = tells SVariable e in
       let s : Symbol = record { head = t.next; site = cell } in
       let more = held_more ws symbols t.symbols s (omega (arith, within.few, within.room))
@@ -198,6 +207,7 @@ module _ (ws : List ℕ) (l : Lengths) (symbols : List Symbol) (t : Tests) (w : 
       rw (done, named)
       (unwritten-on (letter_done t (t.symbols + 1) (length name)) (now ∙ rw more)
       (letter-within (length name) room read.fits (length-set symbols t.symbols s ∙ within.room) (omega arith) (omega arith))
+      (All-set (λ s. SmallSite s.site) symbols t.symbols s (site-near l within short cell at_site))
       (omega arith) (omega arith))
 
   -- AN E-VARIABLE, AND THE END
@@ -220,6 +230,7 @@ module _ (ws : List ℕ) (l : Lengths) (symbols : List Symbol) (t : Tests) (w : 
         next = named.fits;
         place = within.place;
       }
+      (λ h. h)
       (omega arith) (omega arith))
 
   pub tests-end : piece ≡ PatternEnd → testing ws l symbols t ≡ tests_over ws symbols t
@@ -229,35 +240,39 @@ module _ (ws : List ℕ) (l : Lengths) (symbols : List Symbol) (t : Tests) (w : 
 -- ALL OF THEM
 
 -- what is written so far and what is still to be written are the whole pattern's tests
-pub record TestsSoFar (ws : List ℕ) (l : Lengths) (start : ℕ) (w₀ : CodeWriter) (symbols : List Symbol) (w : CodeWriter) (t : Tests) : Type 0 where
+pub record TestsSoFar (ws : List ℕ) (l : Lengths) (start : ℕ) (symbols₀ : List Symbol) (w₀ : CodeWriter) (symbols : List Symbol) (w : CodeWriter)
+    (t : Tests) : Type 0 where
   pub same : StillToWrite w₀ (map test_word (walk l Zero 0 (pattern_at (drop start ws)).value (start_from [])).tests) w
       (test_words (testing ws l symbols t))
   pub known : (testing ws l symbols t).value.sites ≡ (walk l Zero 0 (pattern_at (drop start ws)).value (start_from [])).sites
   pub rest : (testing ws l symbols t).rest ≡ (pattern_at (drop start ws)).rest
   pub within : InTests ws symbols t w.at
+  pub small : AllSmall symbols₀ → AllSmall symbols
   pub grown : w.at ≤ w₀.at + t.letters
 
-pub tests-go-on : {ws : List ℕ} {l : Lengths} {start : ℕ} {w₀ : CodeWriter} {symbols : List Symbol} {w : CodeWriter}
+pub tests-go-on : {ws : List ℕ} {l : Lengths} {start : ℕ} {symbols₀ : List Symbol} {w₀ : CodeWriter} {symbols : List Symbol} {w : CodeWriter}
     {symbols' : List Symbol} {w' : CodeWriter} {t r : Tests}
-    → TestsSoFar ws l start w₀ symbols w t → TestsOn ws l symbols w t symbols' w' r
-    → TestsSoFar ws l start w₀ symbols' w' r
+    → TestsSoFar ws l start symbols₀ w₀ symbols w t → TestsOn ws l symbols w t symbols' w' r
+    → TestsSoFar ws l start symbols₀ w₀ symbols' w' r
 tests-go-on s o =
     record {
       same = still-trans s.same o.same;
       known = o.known ∙ s.known;
       rest = o.rest ∙ s.rest;
       within = o.within;
+      small = λ h. o.small (s.small h);
       grown = omega (arith, s.grown, o.grown);
     }
 
-pub tests-all : {ws : List ℕ} {l : Lengths} {start : ℕ} {w₀ : CodeWriter} {symbols : List Symbol} {w : CodeWriter} {t : Tests}
-    → TestsSoFar ws l start w₀ symbols w t → testing ws l symbols t ≡ tests_over ws symbols t
-    → TestsAll ws l start w₀ symbols w t
+pub tests-all : {ws : List ℕ} {l : Lengths} {start : ℕ} {symbols₀ : List Symbol} {w₀ : CodeWriter} {symbols : List Symbol} {w : CodeWriter} {t : Tests}
+    → TestsSoFar ws l start symbols₀ w₀ symbols w t → testing ws l symbols t ≡ tests_over ws symbols t
+    → TestsAll ws l start symbols₀ w₀ symbols w t
 tests-all s over =
     record {
       wrote = still_end (still-words s.same (ap test_words over));
       known = sym (ap (λ (r : Scan Tested). r.value.sites) over) ∙ s.known;
       rest = sym (ap (λ (r : Scan Tested). r.rest) over) ∙ s.rest;
       within = s.within;
+      small = s.small;
       grown = omega (arith, s.grown, s.within.letters);
     }

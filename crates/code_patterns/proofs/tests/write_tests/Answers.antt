@@ -1,5 +1,6 @@
 -- The facts about `tests::write_tests` that the check is told.
 use mathlib.Core.Path.{refl}
+use borrow.Author.Rules.{rules}
 use Rattle.code_words.proofs.Laws.Writers.{still_refl}
 use native.Mathlib.Omega.{arith}
 use Rattle.code_patterns.proofs.tests.write_tests.Goals as goal
@@ -12,12 +13,13 @@ loop-further-init c =
       rest = refl;
       within =
           record {
-            room = c.requires.symbols_len;
+            room = search rules;
             letters = omega arith;
             offset = omega arith;
             few = omega arith;
             next = c.requires.lengths_bound.1;
             place = omega arith;
           };
+      small = λ h. h;
       grown = omega arith;
     }

@@ -5,7 +5,7 @@ use lib.ListN.{length}
 use Rattle.code_patterns.proofs.tests.write_tests.Given as goal
 
 abbrev pub invariant-loop-further : goal.invariant-loop-further
-invariant-loop-further l = TestsSoFar l.tape l.lengths l.start l.initial.code l.symbols l.code l.t
+invariant-loop-further l = TestsSoFar l.tape l.lengths l.start l.initial.symbols l.initial.code l.symbols l.code l.t
 
 abbrev pub decreases-loop-further : goal.decreases-loop-further
 decreases-loop-further l = length l.tape - l.t.next
