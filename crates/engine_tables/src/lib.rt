@@ -35,6 +35,8 @@ fn fitting(count: Option<usize>) -> Result<usize, Fault>
     })
 }
 
+// Not put into its caller, where the short and the long tape would both stand on the stack.
+#[inline(never)]
 fn read_on(table: &[u8], tape: &mut [u32]) -> Result<usize, Fault>
     requires { LongEnough table.now tape.old }
     ensures { told_words result ≡ read_answer (read table.now) }
