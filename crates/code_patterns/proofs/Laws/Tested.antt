@@ -264,7 +264,8 @@ tests-go-on s o =
       grown = omega (arith, s.grown, o.grown);
     }
 
-pub tests-all : {ws : List ℕ} {l : Lengths} {start : ℕ} {symbols₀ : List Symbol} {w₀ : CodeWriter} {symbols : List Symbol} {w : CodeWriter} {t : Tests}
+pub tests-all : {ws : List ℕ} {l : Lengths} {start : ℕ} {symbols₀ : List Symbol} {w₀ : CodeWriter} {symbols : List Symbol} {w : CodeWriter}
+    {t : Tests}
     → TestsSoFar ws l start symbols₀ w₀ symbols w t → testing ws l symbols t ≡ tests_over ws symbols t
     → TestsAll ws l start symbols₀ w₀ symbols w t
 tests-all s over =
