@@ -249,7 +249,7 @@ pub fn use_seq(g: Registers, input: &mut [u8], output: &[u8], frames: &mut [usiz
         return g.stopped(Ending::NoInstruction);
     }
     let first = sequence_start(frames, frame, opened).earlier(g.r);
-    if g.p.0 < first.until(g.r) {
+    if g.p.count_before() < first.until(g.r) {
         return g.stopped(Ending::InFull);
     }
     set_open_sequences(frames, frame, opened - 1);

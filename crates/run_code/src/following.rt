@@ -172,7 +172,7 @@ fn finished(g: Registers) -> Ran
         ending: Ending::Finished,
         function: 0,
         steps: g.steps as u32,
-        text: g.r.0,
+        text: g.r.count_before(),
         emissions: g.emitted,
     }
 }
