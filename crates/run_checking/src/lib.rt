@@ -25,7 +25,9 @@ fn look(field: &[u8], place: usize, word: CodeWord) -> Result<bool, Wrong>
     ensures { checked_meant result ≡
         tested (look_of (site_of (first_in word.0) (second_in word.0)) (third_in word.0)) field.now place }
 {
-    let byte = cell_at(field, place, word.first(), word.second()).ok_or(Wrong)?;
+    let Some(byte) = cell_at(field, place, word.first(), word.second()) else {
+        return Err(Wrong);
+    };
     Ok(word.third() as u8 == byte)
 }
 
@@ -34,7 +36,9 @@ fn look_ahead(field: &[u8], word: CodeWord) -> Result<bool, Wrong>
     ensures { checked_meant result ≡
         tested (looking (from_start (second_in word.0)) (third_in word.0)) field.now 0 }
 {
-    let byte = byte_at(field, wide(word.second())).ok_or(Wrong)?;
+    let Some(byte) = byte_at(field, wide(word.second())) else {
+        return Err(Wrong);
+    };
     Ok(word.third() as u8 == byte)
 }
 
@@ -45,8 +49,12 @@ fn compare(field: &[u8], place: usize, word: CodeWord) -> Result<bool, Wrong>
         (site_of (first_in word.0 / registers) (third_in word.0))) field.now place }
 {
     let sites = word.first();
-    let first = cell_at(field, place, sites % REGISTERS, word.second()).ok_or(Wrong)?;
-    let second = cell_at(field, place, sites / REGISTERS, word.third()).ok_or(Wrong)?;
+    let Some(first) = cell_at(field, place, sites % REGISTERS, word.second()) else {
+        return Err(Wrong);
+    };
+    let Some(second) = cell_at(field, place, sites / REGISTERS, word.third()) else {
+        return Err(Wrong);
+    };
     Ok(first == second)
 }
 
@@ -63,7 +71,9 @@ fn predicate(
 {
     let site = word.first();
     let class = Class::from_number(word.third()).ok_or(Wrong)?;
-    let byte = cell_at(field, place, site % REGISTERS, word.second()).ok_or(Wrong)?;
+    let Some(byte) = cell_at(field, place, site % REGISTERS, word.second()) else {
+        return Err(Wrong);
+    };
     let expected = site / REGISTERS == 1;
     Ok(classes.passes(byte, class) == expected)
 }
