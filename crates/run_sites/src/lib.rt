@@ -16,11 +16,7 @@ use run_code_places::wide;
 pub fn byte_at(field: &[u8], index: usize) -> Option<u8>
     ensures { option_meant result ≡ nth index field.now }
 {
-    if index < field.len() {
-        Some(field[index])
-    } else {
-        None
-    }
+    field.get(index).copied()
 }
 
 // The cell so far from a place, which may lie past the end.
