@@ -134,9 +134,14 @@ pub record TestsOn (ws : List ℕ) (l : Lengths) (symbols : List Symbol) (w : Co
   pub known : (testing ws l symbols' r).value.sites ≡ (testing ws l symbols t).value.sites
   pub rest : (testing ws l symbols' r).rest ≡ (testing ws l symbols t).rest
   pub within : InTests ws symbols' r w'.at
-  pub small : AllSmall symbols → AllSmall symbols'
   pub ahead : t.next < r.next
   pub grown : w'.at + t.letters ≤ w.at + r.letters
+
+-- such a step, after which the cells that are kept are small if they were so before
+pub record SmallTestsOn (ws : List ℕ) (l : Lengths) (symbols : List Symbol) (w : CodeWriter) (t : Tests)
+    (symbols' : List Symbol) (w' : CodeWriter) (r : Tests) : Type 0 where
+  pub on : TestsOn ws l symbols w t symbols' w' r
+  pub small : AllSmall symbols → AllSmall symbols'
 
 -- the pattern ends there: nothing is left, and nothing is written
 pub record TestsEnd (ws : List ℕ) (l : Lengths) (symbols : List Symbol) (w : CodeWriter) (t : Tests)
@@ -149,7 +154,7 @@ pub record TestsEnd (ws : List ℕ) (l : Lengths) (symbols : List Symbol) (w : C
 abbrev pub TestsStep : List ℕ → Lengths → List Symbol → CodeWriter → Tests → List Symbol → CodeWriter → Option Tests
     → Type 0
 TestsStep ws l symbols w t symbols' w' None = TestsEnd ws l symbols w t symbols' w'
-TestsStep ws l symbols w t symbols' w' (Some r) = TestsOn ws l symbols w t symbols' w' r
+TestsStep ws l symbols w t symbols' w' (Some r) = SmallTestsOn ws l symbols w t symbols' w' r
 
 -- THE STEPS
 
@@ -174,14 +179,19 @@ part_done t size =
     }
 
 -- the whole pattern's tests are written, and its different s-variables are known
-pub record TestsAll (ws : List ℕ) (l : Lengths) (start : ℕ) (symbols : List Symbol) (w : CodeWriter)
-    (symbols' : List Symbol) (w' : CodeWriter) (r : Tests) : Type 0 where
+pub record TestsAll (ws : List ℕ) (l : Lengths) (start : ℕ) (w : CodeWriter) (symbols : List Symbol)
+    (w' : CodeWriter) (r : Tests) : Type 0 where
   pub wrote : Written w (map test_word (walk l Zero 0 (pattern_at (drop start ws)).value (start_from [])).tests) w'
-  pub known : known_so_far ws symbols' r ≡ (walk l Zero 0 (pattern_at (drop start ws)).value (start_from [])).sites
+  pub known : known_so_far ws symbols r ≡ (walk l Zero 0 (pattern_at (drop start ws)).value (start_from [])).sites
   pub rest : drop r.next ws ≡ (pattern_at (drop start ws)).rest
-  pub within : InTests ws symbols' r w'.at
-  pub small : AllSmall symbols → AllSmall symbols'
+  pub within : InTests ws symbols r w'.at
   pub grown : w'.at ≤ w.at + max_letters
+
+-- so they are, and the cells that are kept are small if they were so before
+pub record SmallTestsAll (ws : List ℕ) (l : Lengths) (start : ℕ) (symbols : List Symbol) (w : CodeWriter)
+    (symbols' : List Symbol) (w' : CodeWriter) (r : Tests) : Type 0 where
+  pub all : TestsAll ws l start w symbols' w' r
+  pub small : AllSmall symbols → AllSmall symbols'
 
 -- the length of all templates together
 abbrev pub total : Lengths → ℕ

@@ -7,8 +7,8 @@ ghost use Rattle.tape_layout.specs.Tape.{symbol_word};
 ghost use Rattle.tape_words.specs.declared.tape.Piece.TheVariants.{SVariable};
 ghost use Rattle.tape_words.specs.Words.{piece_at};
 ghost use Rattle.code_words.specs.Writer.{Written};
-ghost use Rattle.code_patterns.specs.Testing.{site_at, InTests, TestsOn, TestsStep, TestsAll, letter_done, part_done};
-ghost use Rattle.code_patterns.specs.Testing.{total, store_of};
+ghost use Rattle.code_patterns.specs.Testing.{site_at, InTests, SmallTestsOn, TestsStep, SmallTestsAll, letter_done};
+ghost use Rattle.code_patterns.specs.Testing.{part_done, total, store_of};
 
 use crate::pattern::{Lengths, one_more};
 use crate::sites::site_of;
@@ -79,7 +79,7 @@ fn test_symbol(
 ) -> Tests
     requires in_tests { InTests tape.now symbols.old t code.old.at × (total lengths ≤ max_letters) }
     requires parts_value { piece_at (drop t.next tape.now) t.letters t.parts ≡ SVariable }
-    ensures { TestsOn tape.now lengths symbols.old code.old t symbols.new code.new result }
+    ensures { SmallTestsOn tape.now lengths symbols.old code.old t symbols.new code.new result }
 {
     let site = site_of(lengths, t.parts, t.offset);
     let name = name_at(tape, t.next);
@@ -119,7 +119,7 @@ pub fn write_tests(
 ) -> Tests
     requires symbols_len { length symbols.old ≡ max_letters }
     requires lengths_bound { (total lengths ≤ max_letters) × (start ≤ length tape.now) × (code.old.at < 2 ^ 60) }
-    ensures { TestsAll tape.now lengths start symbols.old code.old symbols.new code.new result }
+    ensures { SmallTestsAll tape.now lengths start symbols.old code.old symbols.new code.new result }
 {
     let mut t = Tests {
         parts: Parts::Zero,

@@ -54,10 +54,10 @@ metric-fits l number e h = omega (arith, metric-small l.parts)
 
 -- TESTS, CONDITIONS AND STORES
 
-pub matched : {ws : List ℕ} {symbols₀ symbols : List Symbol} {code code₁ code₂ code₃ : CodeWriter} {m : Pattern}
+pub matched : {ws : List ℕ} {symbols : List Symbol} {code code₁ code₂ code₃ : CodeWriter} {m : Pattern}
     {start from tested_to : ℕ} {t : Tests} {c : Conditions}
     → from ≡ code.at → tested_to ≡ code₂.at → MeasuresAll ws start m
-    → TestsAll ws m.lengths start symbols₀ code symbols code₁ t
+    → TestsAll ws m.lengths start code symbols code₁ t
     → ConditionsAll ws (located ws m (take t.symbols symbols)) t.next code₁ code₂ c
     → Written code₂ (map store_of (take t.symbols symbols)) code₃
     → MatchAll ws start code symbols code₃ (record { tests = tested_to - from; symbols = t.symbols; next = c.next })

@@ -24,7 +24,7 @@ use Rattle.code_patterns.specs.Scans.{Scan, scanned, prepended, one_more, piece_
 use Rattle.code_words.specs.declared.CodeWriter.{CodeWriter}
 use Rattle.code_words.specs.Writer.{Written, StillToWrite}
 use Rattle.code_patterns.specs.Testing.{site_meant, site_at, walk, start_from, known_so_far, testing, tests_over, test_words}
-use Rattle.code_patterns.specs.Testing.{SmallSite, AllSmall, InTests, TestsOn, letter_done, part_done, TestsAll, total}
+use Rattle.code_patterns.specs.Testing.{SmallSite, AllSmall, InTests, TestsOn, SmallTestsOn, letter_done, part_done, TestsAll, SmallTestsAll, total}
 use Rattle.std.proofs.lemmas.List.Elements.{All-set}
 use Rattle.tape_words.proofs.Laws.Names.{name-here}
 use Rattle.code_words.proofs.Laws.Writers.{still_refl, still-trans, still-words, still-wrote, still_end}
@@ -113,35 +113,36 @@ module _ (ws : List ℕ) (l : Lengths) (symbols : List Symbol) (t : Tests) (w : 
         place = omega (arith, within.place);
       }
 
+  -- no cell is kept
+  none_kept : {w' : CodeWriter} {r : Tests} → TestsOn ws l symbols w t symbols w' r → SmallTestsOn ws l symbols w t symbols w' r
+  none_kept o = record { on = o; small = λ h. h }
+
   -- one test is written
   test_on : {w' : CodeWriter} {r : Tests} {word : ℕ} (n : ℕ) (x : Test) → word ≡ test_word x
       → testing ws l symbols t ≡ scanned (prefixed (x ∷ []) (walked n known)) (after_letter n).rest
       → Written w (word ∷ []) w' → r ≡ letter_done t t.symbols n → t.letters < max_letters → t.next + 1 + n ≤ length ws
-      → TestsOn ws l symbols w t symbols w' r
+      → SmallTestsOn ws l symbols w t symbols w' r
   test_on n x e now wrote done room fits =
-      rw done record {
+      rw done (none_kept record {
         same =
             still-wrote _ (still-words (still_refl w _) (ap test_words now ∙ ap (λ (v : ℕ). v ∷ map test_word (walked n known).tests) (sym e)))
             wrote;
         known = sym (ap (λ (s : Scan Tested). s.value.sites) now);
         rest = sym (ap (λ (s : Scan Tested). s.rest) now);
         within = letter-within n room fits within.room (omega arith) (omega (arith, wrote.put.next));
-        small = λ h. h;
         ahead = omega arith;
         grown = omega (arith, wrote.put.next);
-      }
+      })
 
   -- nothing is written
   unwritten-on : {symbols' : List Symbol} (r : Tests) → testing ws l symbols t ≡ testing ws l symbols' r
-      → InTests ws symbols' r w.at → (AllSmall symbols → AllSmall symbols') → t.next < r.next → t.letters ≤ r.letters
-      → TestsOn ws l symbols w t symbols' w r
-  unwritten-on {symbols'} r later inside small ahead more =
+      → InTests ws symbols' r w.at → t.next < r.next → t.letters ≤ r.letters → TestsOn ws l symbols w t symbols' w r
+  unwritten-on {symbols'} r later inside ahead more =
       record {
         same = still-words (still_refl w _) (ap test_words later);
         known = sym (ap (λ (s : Scan Tested). s.value.sites) later);
         rest = sym (ap (λ (s : Scan Tested). s.rest) later);
         within = inside;
-        small = small;
         ahead = ahead;
         grown = omega arith;
       }
@@ -150,7 +151,7 @@ module _ (ws : List ℕ) (l : Lengths) (symbols : List Symbol) (t : Tests) (w : 
 
   pub character-on : {w' : CodeWriter} {r : Tests} → piece ≡ Character
       → Written w (test_word (look site (get_or ws t.next 0)) ∷ []) w' → r ≡ letter_done t t.symbols 0
-      → TestsOn ws l symbols w t symbols w' r
+      → SmallTestsOn ws l symbols w t symbols w' r
   unfolding walk
   character-on e wrote done =
       let c = get_or ws t.next 0 in
@@ -184,7 +185,7 @@ module _ (ws : List ℕ) (l : Lengths) (symbols : List Symbol) (t : Tests) (w : 
   pub equal-on : (first cell : Cell) {w' : CodeWriter} {r : Tests} {x : Name} {word : ℕ} → piece ≡ SVariable → x ≡ name
       → some (site_meant first) ≡ lookup x known → site_meant cell ≡ site
       → word ≡ test_word (compare (site_meant first) (site_meant cell))
-      → Written w (word ∷ []) w' → r ≡ letter_done t t.symbols (length x) → TestsOn ws l symbols w t symbols w' r
+      → Written w (word ∷ []) w' → r ≡ letter_done t t.symbols (length x) → SmallTestsOn ws l symbols w t symbols w' r
   equal-on first cell e named found at_site is-word wrote done =
       let (read, room) = tells SVariable e in
       test_on (length name) (compare (site_meant first) site) (rw at_site at is-word)
@@ -193,10 +194,10 @@ module _ (ws : List ℕ) (l : Lengths) (symbols : List Symbol) (t : Tests) (w : 
       (walk-prefix l (after_letter (length name)).value t.parts (t.offset + 1) (compare (site_meant first) site ∷ []) known))
       wrote (rw named at done) room read.fits
 
-  pub new-on : total l ≤ max_letters → (cell : Cell) {r : Tests} {x : Name} → piece ≡ SVariable → x ≡ name → none ≡ lookup x known
+  pub new-on : (cell : Cell) {r : Tests} {x : Name} → piece ≡ SVariable → x ≡ name → none ≡ lookup x known
       → site_meant cell ≡ site → r ≡ letter_done t (t.symbols + 1) (length x)
       → TestsOn ws l symbols w t (set symbols t.symbols (record { head = t.next; site = cell })) w r
-  new-on short cell e named found at_site done =
+  new-on cell e named found at_site done =
       let (read, room) = tells SVariable e in
       let s : Symbol = record { head = t.next; site = cell } in
       let more = held_more ws symbols t.symbols s (omega (arith, within.few, within.room))
@@ -207,13 +208,22 @@ module _ (ws : List ℕ) (l : Lengths) (symbols : List Symbol) (t : Tests) (w : 
       rw (done, named)
       (unwritten-on (letter_done t (t.symbols + 1) (length name)) (now ∙ rw more)
       (letter-within (length name) room read.fits (length-set symbols t.symbols s ∙ within.room) (omega arith) (omega arith))
-      (All-set (λ s. SmallSite s.site) symbols t.symbols s (site-near l within short cell at_site))
       (omega arith) (omega arith))
+
+  -- where the templates together are short, the cell that is kept is small
+  pub small-new-on : total l ≤ max_letters → (cell : Cell) {r : Tests} {x : Name} → piece ≡ SVariable → x ≡ name → none ≡ lookup x known
+      → site_meant cell ≡ site → r ≡ letter_done t (t.symbols + 1) (length x)
+      → SmallTestsOn ws l symbols w t (set symbols t.symbols (record { head = t.next; site = cell })) w r
+  small-new-on short cell e named found at_site done =
+      record {
+        on = new-on cell e named found at_site done;
+        small = All-set (λ s. SmallSite s.site) symbols t.symbols _ (site-near l within short cell at_site);
+      }
 
   -- AN E-VARIABLE, AND THE END
 
   pub part-on : {r : Tests} {n : ℕ} → piece ≡ EVariable → n ≡ length name → r ≡ part_done t n →
-      TestsOn ws l symbols w t symbols w r
+      SmallTestsOn ws l symbols w t symbols w r
   unfolding walk
   part-on e long done =
       let (named, one) = tells EVariable e in
@@ -221,7 +231,7 @@ module _ (ws : List ℕ) (l : Lengths) (symbols : List Symbol) (t : Tests) (w : 
       reads EVariable named.inside e
       ∙ rw (pattern-past t.letters (one_more t.parts) ws t.next named.inside, ← (name-here ws t.next named.inside)) in
       rw (done, long)
-      (unwritten-on (part_done t (length name)) (rw now)
+      (none_kept (unwritten-on (part_done t (length name)) (rw now)
       record {
         room = within.room;
         letters = within.letters;
@@ -230,8 +240,7 @@ module _ (ws : List ℕ) (l : Lengths) (symbols : List Symbol) (t : Tests) (w : 
         next = named.fits;
         place = within.place;
       }
-      (λ h. h)
-      (omega arith) (omega arith))
+      (omega arith) (omega arith)))
 
   pub tests-end : piece ≡ PatternEnd → testing ws l symbols t ≡ tests_over ws symbols t
   unfolding walk
@@ -240,40 +249,55 @@ module _ (ws : List ℕ) (l : Lengths) (symbols : List Symbol) (t : Tests) (w : 
 -- ALL OF THEM
 
 -- what is written so far and what is still to be written are the whole pattern's tests
-pub record TestsSoFar (ws : List ℕ) (l : Lengths) (start : ℕ) (symbols₀ : List Symbol) (w₀ : CodeWriter) (symbols : List Symbol) (w : CodeWriter)
-    (t : Tests) : Type 0 where
+pub record TestsSoFar (ws : List ℕ) (l : Lengths) (start : ℕ) (w₀ : CodeWriter) (symbols : List Symbol) (w : CodeWriter) (t : Tests) : Type 0 where
   pub same : StillToWrite w₀ (map test_word (walk l Zero 0 (pattern_at (drop start ws)).value (start_from [])).tests) w
       (test_words (testing ws l symbols t))
   pub known : (testing ws l symbols t).value.sites ≡ (walk l Zero 0 (pattern_at (drop start ws)).value (start_from [])).sites
   pub rest : (testing ws l symbols t).rest ≡ (pattern_at (drop start ws)).rest
   pub within : InTests ws symbols t w.at
-  pub small : AllSmall symbols₀ → AllSmall symbols
   pub grown : w.at ≤ w₀.at + t.letters
 
-pub tests-go-on : {ws : List ℕ} {l : Lengths} {start : ℕ} {symbols₀ : List Symbol} {w₀ : CodeWriter} {symbols : List Symbol} {w : CodeWriter}
+pub tests-go-on : {ws : List ℕ} {l : Lengths} {start : ℕ} {w₀ : CodeWriter} {symbols : List Symbol} {w : CodeWriter}
     {symbols' : List Symbol} {w' : CodeWriter} {t r : Tests}
-    → TestsSoFar ws l start symbols₀ w₀ symbols w t → TestsOn ws l symbols w t symbols' w' r
-    → TestsSoFar ws l start symbols₀ w₀ symbols' w' r
+    → TestsSoFar ws l start w₀ symbols w t → TestsOn ws l symbols w t symbols' w' r
+    → TestsSoFar ws l start w₀ symbols' w' r
 tests-go-on s o =
     record {
       same = still-trans s.same o.same;
       known = o.known ∙ s.known;
       rest = o.rest ∙ s.rest;
       within = o.within;
-      small = λ h. o.small (s.small h);
       grown = omega (arith, s.grown, o.grown);
     }
 
-pub tests-all : {ws : List ℕ} {l : Lengths} {start : ℕ} {symbols₀ : List Symbol} {w₀ : CodeWriter} {symbols : List Symbol} {w : CodeWriter}
-    {t : Tests}
-    → TestsSoFar ws l start symbols₀ w₀ symbols w t → testing ws l symbols t ≡ tests_over ws symbols t
-    → TestsAll ws l start symbols₀ w₀ symbols w t
+pub tests-all : {ws : List ℕ} {l : Lengths} {start : ℕ} {w₀ : CodeWriter} {symbols : List Symbol} {w : CodeWriter} {t : Tests}
+    → TestsSoFar ws l start w₀ symbols w t → testing ws l symbols t ≡ tests_over ws symbols t
+    → TestsAll ws l start w₀ symbols w t
 tests-all s over =
     record {
       wrote = still_end (still-words s.same (ap test_words over));
       known = sym (ap (λ (r : Scan Tested). r.value.sites) over) ∙ s.known;
       rest = sym (ap (λ (r : Scan Tested). r.rest) over) ∙ s.rest;
       within = s.within;
-      small = s.small;
       grown = omega (arith, s.grown, s.within.letters);
     }
+
+-- THEIR CELLS STAY SMALL
+
+-- those kept so far are small if they were so at first
+pub record SmallTestsSoFar (ws : List ℕ) (l : Lengths) (start : ℕ) (symbols₀ : List Symbol) (w₀ : CodeWriter) (symbols : List Symbol)
+    (w : CodeWriter) (t : Tests) : Type 0 where
+  pub so_far : TestsSoFar ws l start w₀ symbols w t
+  pub small : AllSmall symbols₀ → AllSmall symbols
+
+pub small-tests-go-on : {ws : List ℕ} {l : Lengths} {start : ℕ} {symbols₀ : List Symbol} {w₀ : CodeWriter} {symbols : List Symbol}
+    {w : CodeWriter} {symbols' : List Symbol} {w' : CodeWriter} {t r : Tests}
+    → SmallTestsSoFar ws l start symbols₀ w₀ symbols w t → SmallTestsOn ws l symbols w t symbols' w' r
+    → SmallTestsSoFar ws l start symbols₀ w₀ symbols' w' r
+small-tests-go-on s o = record { so_far = tests-go-on s.so_far o.on; small = λ h. o.small (s.small h) }
+
+pub small-tests-all : {ws : List ℕ} {l : Lengths} {start : ℕ} {symbols₀ : List Symbol} {w₀ : CodeWriter} {symbols : List Symbol}
+    {w : CodeWriter} {t : Tests}
+    → SmallTestsSoFar ws l start symbols₀ w₀ symbols w t → testing ws l symbols t ≡ tests_over ws symbols t
+    → SmallTestsAll ws l start symbols₀ w₀ symbols w t
+small-tests-all s over = record { all = tests-all s.so_far over; small = s.small }

@@ -8,18 +8,21 @@ use Rattle.code_patterns.proofs.tests.write_tests.Goals as goal
 pub loop-further-init : goal.loop-further-init
 loop-further-init c =
     record {
-      same = still_refl _ _;
-      known = refl;
-      rest = refl;
-      within =
+      so_far =
           record {
-            room = search rules;
-            letters = omega arith;
-            offset = omega arith;
-            few = omega arith;
-            next = c.requires.lengths_bound.1;
-            place = omega arith;
+            same = still_refl _ _;
+            known = refl;
+            rest = refl;
+            within =
+                record {
+                  room = search rules;
+                  letters = omega arith;
+                  offset = omega arith;
+                  few = omega arith;
+                  next = c.requires.lengths_bound.1;
+                  place = omega arith;
+                };
+            grown = omega arith;
           };
       small = λ h. h;
-      grown = omega arith;
     }
