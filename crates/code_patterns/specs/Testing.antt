@@ -187,7 +187,7 @@ pub record TestsAll (ws : List ℕ) (l : Lengths) (start : ℕ) (w : CodeWriter)
   pub within : InTests ws symbols r w'.at
   pub grown : w'.at ≤ w.at + max_letters
 
--- so they are, and the cells that are kept are small if they were so before
+-- the same, and the cells that are kept are small if they were so before
 pub record SmallTestsAll (ws : List ℕ) (l : Lengths) (start : ℕ) (symbols : List Symbol) (w : CodeWriter)
     (symbols' : List Symbol) (w' : CodeWriter) (r : Tests) : Type 0 where
   pub all : TestsAll ws l start w symbols' w' r

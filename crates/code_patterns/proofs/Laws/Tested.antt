@@ -113,7 +113,7 @@ module _ (ws : List ℕ) (l : Lengths) (symbols : List Symbol) (t : Tests) (w : 
         place = omega (arith, within.place);
       }
 
-  -- no cell is kept
+  -- a step that keeps no cell of an s-variable
   none_kept : {w' : CodeWriter} {r : Tests} → TestsOn ws l symbols w t symbols w' r → SmallTestsOn ws l symbols w t symbols w' r
   none_kept o = record { on = o; small = λ h. h }
 
@@ -282,9 +282,9 @@ tests-all s over =
       grown = omega (arith, s.grown, s.within.letters);
     }
 
--- THEIR CELLS STAY SMALL
+-- THE CELLS THAT ARE KEPT STAY SMALL
 
--- those kept so far are small if they were so at first
+-- tests so far, where the cells that are kept are small if they were so at first
 pub record SmallTestsSoFar (ws : List ℕ) (l : Lengths) (start : ℕ) (symbols₀ : List Symbol) (w₀ : CodeWriter) (symbols : List Symbol)
     (w : CodeWriter) (t : Tests) : Type 0 where
   pub so_far : TestsSoFar ws l start w₀ symbols w t
