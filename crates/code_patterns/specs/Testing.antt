@@ -1,5 +1,6 @@
 -- A pattern's tests and its different s-variables, as they are written piece by piece.
-use Rattle.std.specs.Prelude.{ℕ, ◌+◌, ◌-◌, ◌≤◌, ◌<◌, ◌^◌, ◌≡◌, ◌/◌, ◌%◌, Bool, true, false, eqb}
+use Rattle.std.specs.Prelude.{ℕ, ◌+◌, ◌-◌, ◌≤◌, ◌<◌, ◌^◌, ◌≡◌, ◌/◌, ◌%◌}
+use Rattle.std.specs.Prelude.{Bool, true, false, eqb}
 use Rattle.std.specs.Prelude.{List, [], ◌∷◌, map, length, take, drop, Option, Some, None, MatchOption}
 use Rattle.std.specs.List.{All, AllWithin, HoldsAt}
 use Rattle.std.proofs.Math.Option.{Option as Found, none, some}
@@ -151,8 +152,8 @@ pub record TestsEnd (ws : List ℕ) (l : Lengths) (symbols : List Symbol) (w : C
   pub unwritten : w' ≡ w
 
 -- a piece leads on; where none does, nothing is left
-abbrev pub TestsStep : List ℕ → Lengths → List Symbol → CodeWriter → Tests → List Symbol → CodeWriter → Option Tests
-    → Type 0
+abbrev pub TestsStep : List ℕ → Lengths → List Symbol → CodeWriter → Tests → List Symbol → CodeWriter
+    → Option Tests → Type 0
 TestsStep ws l symbols w t symbols' w' None = TestsEnd ws l symbols w t symbols' w'
 TestsStep ws l symbols w t symbols' w' (Some r) = SmallTestsOn ws l symbols w t symbols' w' r
 

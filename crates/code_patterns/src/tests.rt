@@ -1,5 +1,6 @@
 // A pattern's tests, the list of its different s-variables with the cell at which each stands first, and their stores.
-ghost use Rattle.std.specs.Prelude.{◌≡◌, [], ◌∷◌, map, ◌+◌, ◌≤◌, ◌<◌, ◌^◌, length, drop, get_or};
+ghost use Rattle.std.specs.Prelude.{◌≡◌, [], ◌∷◌, map, length, drop, get_or};
+ghost use Rattle.std.specs.Prelude.{◌+◌, ◌≤◌, ◌<◌, ◌^◌};
 ghost use Rattle.meaning.specs.Allowed.{max_letters};
 ghost use Rattle.meaning.specs.Instructions.{look};
 ghost use Rattle.meaning.specs.Packing.{test_word};

@@ -144,7 +144,8 @@ names-back [] = refl
 names-back (n ∷ ns) = ap (λ (r : List Name). n ∷ r) (names-back ns)
 
 -- the body is written from its place on: the names are those of some table
-pub body-ahead : {ws heads : List ℕ} {code code' : CodeWriter} {start : ℕ} {r : Body} → BodyAll ws heads start code code' r → code.at ≤ code'.at
+pub body-ahead : {ws heads : List ℕ} {code code' : CodeWriter} {start : ℕ} {r : Body} → BodyAll ws heads start code code' r
+    → code.at ≤ code'.at
 body-ahead {ws} {heads} b = omega (arith, (b.wrote (map named (head_names ws heads)) (names-back (head_names ws heads))).put.next)
 
 -- THE WHOLE SENTENCE
@@ -252,7 +253,8 @@ module _ {ws heads : List ℕ} {start : ℕ} {code₀ code code' : CodeWriter} {
       (pick more (sentences_left t recoverer ws (count + 1) (b.next + 1)) (end_word recoverer ∷ []))
   go_on more e t recoverer g =
       still-trans (s.same t recoverer g)
-      (still-wrote _ (still-words (still_refl code _) (sentence-first t recoverer ws count next b.next more h all.rest (sym is ∙ e))) (all.wrote t g))
+      (still-wrote _ (still-words (still_refl code _) (sentence-first t recoverer ws count next b.next more h all.rest (sym is ∙ e)))
+      (all.wrote t g))
 
   pub sentences-go-on : found ≡ true → SentencesSoFar ws heads start code₀ code' (count + 1) (b.next + 1)
   sentences-go-on e =

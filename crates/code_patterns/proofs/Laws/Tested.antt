@@ -49,7 +49,8 @@ module _ (l : Lengths) where
       → walk l k o es (tested (ts ++ t ∷ []) ss) ≡ prefixed ts (walk l k o es (tested (t ∷ []) ss))
   prefix-one es h k o t ts ss =
       h k o (ts ++ t ∷ []) ss ∙ sym (ap (prefixed ts) (h k o (t ∷ []) ss)
-      ∙ ap (λ (r : List Test). tested r (walk l k o es (start_from ss)).sites) (sym (append_assoc ts (t ∷ []) (walk l k o es (start_from ss)).tests)))
+      ∙ ap (λ (r : List Test). tested r (walk l k o es (start_from ss)).sites)
+      (sym (append_assoc ts (t ∷ []) (walk l k o es (start_from ss)).tests)))
 
   prefix-symbol : (es : List Element) → Prefixes es → (k : Parts) (o : ℕ) (known : Option Site) (x : Name) (s : Site) (ts : List Test)
       (ss : List (Named Site))
@@ -211,8 +212,8 @@ module _ (ws : List ℕ) (l : Lengths) (symbols : List Symbol) (t : Tests) (w : 
       (omega arith) (omega arith))
 
   -- where the templates together are short, the cell that is kept is small
-  pub small-new-on : total l ≤ max_letters → (cell : Cell) {r : Tests} {x : Name} → piece ≡ SVariable → x ≡ name → none ≡ lookup x known
-      → site_meant cell ≡ site → r ≡ letter_done t (t.symbols + 1) (length x)
+  pub small-new-on : total l ≤ max_letters → (cell : Cell) {r : Tests} {x : Name} → piece ≡ SVariable → x ≡ name
+      → none ≡ lookup x known → site_meant cell ≡ site → r ≡ letter_done t (t.symbols + 1) (length x)
       → SmallTestsOn ws l symbols w t (set symbols t.symbols (record { head = t.next; site = cell })) w r
   small-new-on short cell e named found at_site done =
       record {
@@ -249,7 +250,8 @@ module _ (ws : List ℕ) (l : Lengths) (symbols : List Symbol) (t : Tests) (w : 
 -- ALL OF THEM
 
 -- what is written so far and what is still to be written are the whole pattern's tests
-pub record TestsSoFar (ws : List ℕ) (l : Lengths) (start : ℕ) (w₀ : CodeWriter) (symbols : List Symbol) (w : CodeWriter) (t : Tests) : Type 0 where
+pub record TestsSoFar (ws : List ℕ) (l : Lengths) (start : ℕ) (w₀ : CodeWriter) (symbols : List Symbol) (w : CodeWriter)
+    (t : Tests) : Type 0 where
   pub same : StillToWrite w₀ (map test_word (walk l Zero 0 (pattern_at (drop start ws)).value (start_from [])).tests) w
       (test_words (testing ws l symbols t))
   pub known : (testing ws l symbols t).value.sites ≡ (walk l Zero 0 (pattern_at (drop start ws)).value (start_from [])).sites
